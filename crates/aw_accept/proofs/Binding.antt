@@ -83,4 +83,5 @@ mutual
       let u = match-parts p t xs (under-yes n (match p t) xs a) in
       let w = match_parts-parts ps ts (suc n) ys b in
       subst (λ l. Pairs (PieceOf (More t ts)) (leaves p ++ all_leaves ps) l) j
-      (Pairs-append (PieceOf (More t ts)) (leaves p) xs (all_leaves ps) ys (Pairs-weaken (λ v' b. Piece t b) (PieceOf (More t ts)) (λ a b' w' h i. inl (w' h i)) (leaves p) xs u) (Pairs-weaken (PieceOf ts) (PieceOf (More t ts)) (λ a b' w' h i. inr (w' h i)) (all_leaves ps) ys w))
+      (Pairs-append (PieceOf (More t ts)) (leaves p) xs (all_leaves ps) ys (Pairs-weaken (λ v' b. Piece t b) (PieceOf (More t ts))
+      (λ a b' w' h i. inl (w' h i)) (leaves p) xs u) (Pairs-weaken (PieceOf ts) (PieceOf (More t ts)) (λ a b' w' h i. inr (w' h i)) (all_leaves ps) ys w))

@@ -36,7 +36,8 @@ Member-insert_rows y (r ∷ rs) c m =
 abbrev pub child_row : Node → ℕ → List Value → ℕ → Child → Row
 child_row n r e k c = record { node = below n r k; sort = c.sort; inherited = map (fill e) c.args; results = holes (below n r k) c.outs; state = Pending }
 
-pub Member-child_rows : (y : Row) (n : Node) (r : ℕ) (e : List Value) (k : ℕ) (cs : List Child) → Member y (child_rows n r e k cs) → (j : ℕ) × (c : Child) × (slice_get cs j ≡ Some c) × (y ≡ child_row n r e (k + j) c)
+pub Member-child_rows : (y : Row) (n : Node) (r : ℕ) (e : List Value) (k : ℕ) (cs : List Child) → Member y (child_rows n r e k cs) → (j : ℕ)
+    × (c : Child) × (slice_get cs j ≡ Some c) × (y ≡ child_row n r e (k + j) c)
 Member-child_rows y n r e k [] m = never m
 Member-child_rows y n r e k (c ∷ cs) (inl eq) = let z : k ≡ k + 0 = omega arith in (0, c, refl, eq ∙ ap (λ k'. child_row n r e k' c) z)
 Member-child_rows y n r e k (c ∷ cs) (inr m) =
@@ -63,7 +64,8 @@ pub item-mapped : {A B : Type 0} (f : A → B) (xs : List A) (i : ℕ) (y : B) �
 item-mapped f xs zero y e = absurd cc
 item-mapped f xs (suc i) y e = got_unmap f xs i y e
 
-pub rounds-inherited : (m : ℕ) (f : Ref → Value) (q : Row) (i : ℕ) (t : Value) → item ((rounds m (row_put f) q).inherited) i ≡ Some t → (s : Value) × (item q.inherited i ≡ Some s) × (t ≡ rounds m (bind f) s)
+pub rounds-inherited : (m : ℕ) (f : Ref → Value) (q : Row) (i : ℕ) (t : Value) → item ((rounds m (row_put f) q).inherited) i ≡ Some t → (s : Value)
+    × (item q.inherited i ≡ Some s) × (t ≡ rounds m (bind f) s)
 rounds-inherited zero f q i t e = (t, e, refl)
 rounds-inherited (suc m) f q i t e =
     let (s, g, h) = rounds-inherited m f (row_put f q) i t e in
@@ -86,7 +88,8 @@ slot_cases : (n : Node) (ts : List Value) (a h : Ref) (s : Slot) → a.slot ≡ 
 slot_cases n ts a h (Result j) e f w = inr (j, (λ i. record { node = f i; slot = e i }), w)
 slot_cases n ts a h (Part k) e f w = inl w
 
-put_cases : (b : Bool) (n : Node) (ts : List Value) (a h : Ref) → node_eq n a.node ≡ b → In h (cond b (result_at ts a a.slot) (Leaf a)) → (h ≡ a) ⊎ ((j : ℕ) × (a ≡ result n j) × In h (nth nothing ts j))
+put_cases : (b : Bool) (n : Node) (ts : List Value) (a h : Ref) → node_eq n a.node ≡ b → In h (cond b (result_at ts a a.slot) (Leaf a)) → (h ≡ a)
+    ⊎ ((j : ℕ) × (a ≡ result n j) × In h (nth nothing ts j))
 put_cases true n ts a h e w = slot_cases n ts a h a.slot refl (sym (node_is n a.node e)) w
 put_cases false n ts a h e w = inl w
 
@@ -100,7 +103,8 @@ get-filled f (t ∷ ts) (suc zero) h w = (t, refl, w)
 get-filled f (t ∷ ts) (suc (suc j)) h w = get-filled f ts (suc j) h w
 
 -- the rows before the rounds
-done_cases : (b : Bool) (n : Node) (s : State) (q : Row) → node_eq n q.node ≡ b → cond b (record q { state = s }) q ≡ done_row n s q → ((n ≡ q.node) × (done_row n s q ≡ record q { state = s })) ⊎ (done_row n s q ≡ q)
+done_cases : (b : Bool) (n : Node) (s : State) (q : Row) → node_eq n q.node ≡ b → cond b (record q { state = s }) q ≡ done_row n s q →
+    ((n ≡ q.node) × (done_row n s q ≡ record q { state = s })) ⊎ (done_row n s q ≡ q)
 done_cases true n s q e f = inl (node_is n q.node e, sym f)
 done_cases false n s q e f = inr (sym f)
 

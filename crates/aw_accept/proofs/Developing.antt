@@ -19,7 +19,10 @@ use Rattle.aw_accept.proofs.Spots.{Spot, Inh, Out, occ_of, Move}
 use Rattle.aw_accept.proofs.Contraction.{Vertex, H, O, Way, outer, enter, inner, leave, contract, within}
 use Rattle.aw_accept.proofs.Binding.{In-bind}
 use Rattle.aw_accept.proofs.Sources.{Source, Source_at, env_enters, entered}
-use Rattle.aw_accept.proofs.ConfigLemmas.{below-child, child_row, Member-insert_rows, Member-child_rows, Member-rounds, rounds-sort, rounds-state, item-mapped, rounds-inherited, Chain, end, link, In-rounds, In-put, get-filled, done_row-cases, Member-all_inserted, Member-made_children, Member-rounded, length-upto, Member-upto, upto-bound, upto-low, rounds-results-length, rounds-inherited-list, rounds-results-list, done_row-same}
+use Rattle.aw_accept.proofs.ConfigLemmas.{below-child, child_row, Member-insert_rows, Member-child_rows, Member-rounds, rounds-sort, rounds-state}
+use Rattle.aw_accept.proofs.ConfigLemmas.{item-mapped, rounds-inherited, Chain, end, link, In-rounds, In-put, get-filled, done_row-cases}
+use Rattle.aw_accept.proofs.ConfigLemmas.{Member-all_inserted, Member-made_children, Member-rounded, length-upto, Member-upto, upto-bound, upto-low}
+use Rattle.aw_accept.proofs.ConfigLemmas.{rounds-results-length, rounds-inherited-list, rounds-results-list, done_row-same}
 use Rattle.aw_accept.proofs.Pigeonholes.{pigeon}
 use Rattle.aw_name.specs.SameNodes.{node_self}
 use Rattle.aw_term.proofs.RowParts.{rounds_node}
@@ -275,7 +278,8 @@ module _ (rel : ℕ → ℕ → ℕ → Type 0) (c : Config) (q : Row) (ri : ℕ
       subst (λ x. Member x places) (sym g') (member_map (result q.node) j (upto 1 (length r.results)) (Member-upto 1 (length r.results) j z lt'))
   own_place b (i, f) (inr (k, l, d, s, lt0, lt, g)) = never (T.fresh q T.held (suc k) (sym (node_of f) ∙ node_of g))
 
-  own_list : {m : ℕ} {a h : Ref} → Chain sigma m a h → Own h → Fate a → (ys : List Ref) × (length ys ≡ m) × Each (λ y. Member y places) ys × Each (Plus (Needs rel c) a) ys × Later (Plus (Needs rel c)) ys
+  own_list : {m : ℕ} {a h : Ref} → Chain sigma m a h → Own h → Fate a → (ys : List Ref) × (length ys ≡ m) × Each (λ y. Member y places) ys
+      × Each (Plus (Needs rel c) a) ys × Later (Plus (Needs rel c)) ys
   own_list end o f = ([], refl, tt, tt, tt)
   own_list (link {a = a} {b = b} x ch) o f =
       let ob = own_before ch o in
@@ -325,7 +329,8 @@ module _ (rel : ℕ → ℕ → ℕ → Type 0) (c : Config) (q : Row) (ri : ℕ
         ]))
       ]
 
-  in_new : (y : Row) (j : ℕ) (h : Ref) → Member y added → y.state ≡ Pending → h ≡ result y.node j → 0 < j → j ≤ length y.results → (p : Row) × (j : ℕ) × Member p new × (p.state ≡ Pending) × (h ≡ result p.node j) × (0 < j) × (j ≤ length p.results)
+  in_new : (y : Row) (j : ℕ) (h : Ref) → Member y added → y.state ≡ Pending → h ≡ result y.node j → 0 < j → j ≤ length y.results → (p : Row) × (j : ℕ)
+      × Member p new × (p.state ≡ Pending) × (h ≡ result p.node j) × (0 < j) × (j ≤ length p.results)
   in_new y j h m s f lt0 lt =
       let M = length r.results in (
         rounds M (row_put sigma) y,
@@ -337,16 +342,19 @@ module _ (rel : ℕ → ℕ → ℕ → Type 0) (c : Config) (q : Row) (ri : ℕ
         omega (arith, lt, rounds-results-length M sigma y),
       )
 
-  pub fate_new : (a h : Ref) → Chain sigma (length r.results) a h → Fate a → Fate h → (p : Row) × (j : ℕ) × Member p new × (p.state ≡ Pending) × (h ≡ result p.node j) × (0 < j) × (j ≤ length p.results)
+  pub fate_new : (a h : Ref) → Chain sigma (length r.results) a h → Fate a → Fate h → (p : Row) × (j : ℕ) × Member p new × (p.state ≡ Pending)
+      × (h ≡ result p.node j) × (0 < j) × (j ≤ length p.results)
   fate_new a h ch fa (inl (p, j, m, s, f, lt0, lt)) =
       elim (done_row-cases q.node (Done ri args) p) [
         | inl g ↦ never (no_own a h ch fa (j, f ∙ ap (λ n. result n j) (sym g.0)))
-        | inr g ↦ in_new p j h (Member-all_inserted p (child_rows q.node ri e 1 r.children) (map (done_row q.node (Done ri args)) c) (inr (subst (λ y. Member y (map (done_row q.node (Done ri args)) c)) g (member_map (done_row q.node (Done ri args)) p c m)))) s f lt0 lt
+        | inr g ↦ in_new p j h (Member-all_inserted p (child_rows q.node ri e 1 r.children) (map (done_row q.node (Done ri args)) c)
+            (inr (subst (λ y. Member y (map (done_row q.node (Done ri args)) c)) g (member_map (done_row q.node (Done ri args)) p c m)))) s f lt0 lt
       ]
   fate_new a h ch fa (inr (k, l, d, s, lt0, lt, f)) =
       let z : 1 + k ≡ suc k = omega arith in
       let mem = subst (λ k'. Member (child_row q.node ri e k' d) (child_rows q.node ri e 1 r.children)) z (Member-made_children q.node ri e 1 r.children k d s) in
-      in_new (child_row q.node ri e (suc k) d) l h (Member-all_inserted (child_row q.node ri e (suc k) d) (child_rows q.node ri e 1 r.children) (map (done_row q.node (Done ri args)) c) (inl mem)) refl f lt0
+      in_new (child_row q.node ri e (suc k) d) l h (Member-all_inserted (child_row q.node ri e (suc k) d) (child_rows q.node ri e 1 r.children)
+      (map (done_row q.node (Done ri args)) c) (inl mem)) refl f lt0
       (omega (arith, lt, length-map (upto 1 d.outs) (λ j. Leaf (result (below q.node ri (suc k)) j)), length-upto 1 d.outs))
 
   still_whole : IsWhole new

@@ -8,7 +8,8 @@ use Rattle.aw_term.specs.Names.{Node, Ref, root}
 use Rattle.aw_term.specs.Rules.{Term, Ground, Value, Rule, Grammar}
 use Rattle.aw_term.specs.Matching.{Matched, Yes, Waits, Differs, Circle, and_then, under, match, match_parts, match_all}
 use Rattle.aw_term.specs.Configs.{State, Pending, Done, Row, Config, row_of}
-use Rattle.aw_term.specs.Choices.{Choice, Start, Develop, Answer, NotHere, Developed, NotItsRule, Arguments, WaitsFor, CircleAt, TooDeep, Taken, Outcome, Refused, Takes, deep, after_guard, at_rule, at_state, at_row, not_held, answer_of, answer}
+use Rattle.aw_term.specs.Choices.{Choice, Start, Develop, Answer, NotHere, Developed, NotItsRule, Arguments, WaitsFor, CircleAt, TooDeep, Taken}
+use Rattle.aw_term.specs.Choices.{Outcome, Refused, Takes, deep, after_guard, at_rule, at_state, at_row, not_held, answer_of, answer}
 use Rattle.aw_accept.specs.Missing.{WaitsForMissing, TellsNoCircle}
 use Rattle.aw_accept.proofs.UndividedRuns.{row_of-found}
 
@@ -52,7 +53,8 @@ mutual
       ]
 
 -- the place, counted from 0, at which a guard waits
-pub match_all-waits : (ps : List Term) (ts : List Value) (n : ℕ) (h : Ref) → match_all n ps ts ≡ Waits h → (i : ℕ) × (p : Term) × (t : Value) × (slice_get ps i ≡ Some p) × (slice_get ts i ≡ Some t) × (match p t ≡ Waits h)
+pub match_all-waits : (ps : List Term) (ts : List Value) (n : ℕ) (h : Ref) → match_all n ps ts ≡ Waits h → (i : ℕ) × (p : Term) × (t : Value)
+    × (slice_get ps i ≡ Some p) × (slice_get ts i ≡ Some t) × (match p t ≡ Waits h)
 match_all-waits [] ts n h e = absurd cc
 match_all-waits (p ∷ ps) [] n h e = absurd cc
 match_all-waits (p ∷ ps) (t ∷ ts) n h e =
@@ -135,7 +137,8 @@ state_gives : (s : State) (g : Grammar) (n : Node) (ri : ℕ) (args : List Groun
 state_gives (Done r xs) g n ri args q a holds e = never (other Developed a refl holds e)
 state_gives Pending g n ri args q a holds e = rule_gives (slice_get g.rules ri) n args q a holds e
 
-row_gives : (o : Option Row) (g : Grammar) (n : Node) (ri : ℕ) (args : List Ground) (a : Answer Ref) → names_hole a ≡ true → answer_of (at_row o g n ri args) ≡ a → (q : Row) × (o ≡ Some q) × Gives n q a
+row_gives : (o : Option Row) (g : Grammar) (n : Node) (ri : ℕ) (args : List Ground) (a : Answer Ref) → names_hole a ≡ true →
+    answer_of (at_row o g n ri args) ≡ a → (q : Row) × (o ≡ Some q) × Gives n q a
 row_gives None g n ri args a holds e = never (other NotHere a refl holds e)
 row_gives (Some q) g n ri args a holds e = (q, refl, state_gives q.state g n ri args q a holds e)
 

@@ -9,7 +9,9 @@ alone : (g : Grammar) (o : Option Config) → option_and_then (λ z. undivided g
 alone g None = refl
 alone g (Some z) = refl
 
-later : (g : Grammar) (cs ds : List Choice) (d : Config) (whole o : Option Config) → ((z : Config) → undivided g z cs ≡ Some d → undivided g z ds ≡ whole) → option_and_then (λ z. undivided g z cs) o ≡ Some d → option_and_then (λ z. undivided g z ds) o ≡ whole
+later : (g : Grammar) (cs ds : List Choice) (d : Config) (whole o : Option Config) →
+    ((z : Config) → undivided g z cs ≡ Some d → undivided g z ds ≡ whole) → option_and_then (λ z. undivided g z cs) o ≡ Some d →
+    option_and_then (λ z. undivided g z ds) o ≡ whole
 later g cs ds d whole None f e = absurd cc
 later g cs ds d whole (Some z) f e = f z e
 

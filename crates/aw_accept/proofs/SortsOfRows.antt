@@ -1,5 +1,6 @@
 -- Each row has the sort of its node's name.
-use Rattle.std.proofs.Common.{◌≡◌, ℕ, suc, ◌+◌, Bool, true, false, cond, List, [], ◌∷◌, ◌++◌, map, length, Option, Some, None, slice_get, option_map, refl, sym, ap, ◌∙◌, subst, inl, inr, eq-eqb, arith}
+use Rattle.std.proofs.Common.{◌≡◌, ℕ, suc, ◌+◌, Bool, true, false, cond, List, [], ◌∷◌, ◌++◌, map, length, Option, Some, None, slice_get, option_map}
+use Rattle.std.proofs.Common.{refl, sym, ap, ◌∙◌, subst, inl, inr, eq-eqb, arith}
 use Rattle.std.specs.Prelude.{nat_eq, option_and_then}
 use Rattle.std.proofs.lemmas.Option.{same_Some, option_and_then_some}
 use Rattle.aw_list.specs.Members.{Member}
@@ -28,7 +29,8 @@ by_start : (b : Bool) (x y : Option ℕ) (s t : ℕ) → (x ≡ Some s → y ≡
 by_start true x y s t f e = f e
 by_start false x y s t f e = absurd cc
 
-by_sort : (o : Option Sort) (x y : Option ℕ) (s t : ℕ) → (x ≡ Some s → y ≡ Some t) → option_and_then (λ (z : Sort). cond z.start x None) o ≡ Some s → option_and_then (λ (z : Sort). cond z.start y None) o ≡ Some t
+by_sort : (o : Option Sort) (x y : Option ℕ) (s t : ℕ) → (x ≡ Some s → y ≡ Some t) → option_and_then (λ (z : Sort). cond z.start x None) o ≡ Some s →
+    option_and_then (λ (z : Sort). cond z.start y None) o ≡ Some t
 by_sort None x y s t f e = absurd cc
 by_sort (Some z) x y s t f e = by_start z.start x y s t f e
 
@@ -39,7 +41,8 @@ sort_of-below g n s ri k t e f =
     by_sort (slice_get g.sorts n.start) (sort_after g n.start n.steps) (sort_after g n.start (n.steps ++ step)) s t
     (λ h. sort_after-append g step n.steps n.start ∙ (ap (option_and_then (λ u. sort_after g u step)) h ∙ ap (option_and_then (λ u. Some u)) f)) e
 
-pub sort_of_step-rule : (g : Grammar) (s ri k : ℕ) (rule : Rule) (d : Child) → slice_get g.rules ri ≡ Some rule → rule.sort ≡ s → slice_get rule.children k ≡ Some d → sort_of_step g s (record { rule = ri; child = suc k }) ≡ Some d.sort
+pub sort_of_step-rule : (g : Grammar) (s ri k : ℕ) (rule : Rule) (d : Child) → slice_get g.rules ri ≡ Some rule → rule.sort ≡ s →
+    slice_get rule.children k ≡ Some d → sort_of_step g s (record { rule = ri; child = suc k }) ≡ Some d.sort
 sort_of_step-rule g s ri k rule d e f h =
     ap (option_and_then (λ (r : Rule). cond (nat_eq r.sort s) (option_map (λ (c : Child). c.sort) (child_at r.children (suc k))) None)) e
     ∙ (ap (λ b. cond b (option_map (λ (c : Child). c.sort) (slice_get rule.children k)) None) (eq-eqb rule.sort s f)
@@ -48,7 +51,8 @@ sort_of_step-rule g s ri k rule d e f h =
 same_sort : (g : Grammar) (q p : Row) → q.node ≡ p.node → q.sort ≡ p.sort → sort_of g p.node ≡ Some p.sort → sort_of g q.node ≡ Some q.sort
 same_sort g q p node sort own = ap (sort_of g) node ∙ (own ∙ ap Some (sym sort))
 
-developed : (g : Grammar) (c : Config) (n : Node) (ri : ℕ) (args : List Ground) (rule : Rule) (bs : List Value) → HaveTheirSorts g c → Decoded g c n ri args rule bs → HaveTheirSorts g (develop n ri rule bs args c)
+developed : (g : Grammar) (c : Config) (n : Node) (ri : ℕ) (args : List Ground) (rule : Rule) (bs : List Value) → HaveTheirSorts g c →
+    Decoded g c n ri args rule bs → HaveTheirSorts g (develop n ri rule bs args c)
 developed g c n ri args rule bs own D y m =
     let (z, o, x) = Member-rounds (length rule.results) (row_put f) y (insert_rows children (map (done_row n (Done ri args)) c)) m in
     same_sort g y z (ap (λ (r : Row). r.node) x ∙ rounds_node (length rule.results) f z) (ap (λ (r : Row). r.sort) x ∙ rounds-sort (length rule.results) f z) (added z o)
@@ -72,10 +76,12 @@ developed g c n ri args rule bs own D y m =
               (let (j, d, h, x) = Member-child_rows z n ri (env n ri rule bs args) 1 rule.children a in
               let at : 1 + j ≡ suc j = omega arith in
               let is = x ∙ ap (λ k. child_row n ri (env n ri rule bs args) k d) at in
-              same_sort g z (child_row n ri (env n ri rule bs args) (suc j) d) (ap (λ (r : Row). r.node) is) (ap (λ (r : Row). r.sort) is) (sort_of-below g n rule.sort ri (suc j) d.sort here (sort_of_step-rule g rule.sort ri j rule d D.rule_is refl h)))
+              same_sort g z (child_row n ri (env n ri rule bs args) (suc j) d) (ap (λ (r : Row). r.node) is) (ap (λ (r : Row). r.sort) is)
+              (sort_of-below g n rule.sort ri (suc j) d.sort here (sort_of_step-rule g rule.sort ri j rule d D.rule_is refl h)))
           | inr a ↦
               (let (p, o', x) = member_unmap (done_row n (Done ri args)) z c a in
-              same_sort g z p (ap (λ (r : Row). r.node) x ∙ done_row-same (λ (r : Row). r.node) n (Done ri args) p refl) (ap (λ (r : Row). r.sort) x ∙ done_row-same (λ (r : Row). r.sort) n (Done ri args) p refl) (own p o'))
+              same_sort g z p (ap (λ (r : Row). r.node) x ∙ done_row-same (λ (r : Row). r.node) n (Done ri args) p refl) (ap (λ (r : Row). r.sort) x
+              ∙ done_row-same (λ (r : Row). r.sort) n (Done ri args) p refl) (own p o'))
         ]
 
 started : (g : Grammar) (c : Config) (s k : ℕ) → HaveTheirSorts g c → IsAtStart g (Start s k) → HaveTheirSorts g (insert_row (start_row g s k) c)

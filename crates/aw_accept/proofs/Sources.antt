@@ -26,7 +26,8 @@ module _ (q : Row) (ri : ℕ) (r : Rule) where
   EntersAt None b = (h : Ref) → In h b → Never
   EntersAt (Some o) b = (h : Ref) → In h b → Source o h
 
-  pub patterns_enter : (ps : List Term) (ts : List Value) (n i : ℕ) (bs : List Value) → match_all n ps ts ≡ Yes bs → ((k : ℕ) (t : Value) → slice_get ts k ≡ Some t → item q.inherited (i + k) ≡ Some t) → Pairs EntersAt (pattern_entries i ps) bs
+  pub patterns_enter : (ps : List Term) (ts : List Value) (n i : ℕ) (bs : List Value) → match_all n ps ts ≡ Yes bs →
+      ((k : ℕ) (t : Value) → slice_get ts k ≡ Some t → item q.inherited (i + k) ≡ Some t) → Pairs EntersAt (pattern_entries i ps) bs
   patterns_enter [] ts n i bs e at = subst (λ l. Pairs EntersAt [] l) (yes-inj e) tt
   patterns_enter (p ∷ ps) [] n i bs e at = absurd cc
   patterns_enter (p ∷ ps) (t ∷ ts) n i bs e at =
@@ -43,7 +44,8 @@ module _ (q : Row) (ri : ℕ) (r : Rule) where
   params_enter [] = tt
   params_enter (t ∷ ts) = ((λ h w. let (x, y, z) = In-bind (λ x. elim x [ ]) h t w in elim x [ ]), params_enter ts)
 
-  pub outs_enter : (k : ℕ) (c : Child) → slice_get r.children k ≡ Some c → (i m : ℕ) → 0 < i → i + m ≤ suc c.outs → Pairs EntersAt (map (λ l. Some (given (suc k) l)) (upto i m)) (map (λ j. Leaf (result (below q.node ri (suc k)) j)) (upto i m))
+  pub outs_enter : (k : ℕ) (c : Child) → slice_get r.children k ≡ Some c → (i m : ℕ) → 0 < i → i + m ≤ suc c.outs →
+      Pairs EntersAt (map (λ l. Some (given (suc k) l)) (upto i m)) (map (λ j. Leaf (result (below q.node ri (suc k)) j)) (upto i m))
   outs_enter k c e i zero pos le = tt
   outs_enter k c e i (suc m) pos le =
       let lt : i ≤ c.outs = omega arith in
@@ -51,7 +53,8 @@ module _ (q : Row) (ri : ℕ) (r : Rule) where
       let up : 0 < suc i = omega arith in
       ((λ h w. (c, e, pos, lt, w)), outs_enter k c e (suc i) m up le')
 
-  children_enter : (cs : List Child) (k : ℕ) → ((j : ℕ) (c : Child) → slice_get cs j ≡ Some c → slice_get r.children (k + j) ≡ Some c) → Pairs EntersAt (child_entries (suc k) cs) (child_holes q.node ri (suc k) cs)
+  children_enter : (cs : List Child) (k : ℕ) → ((j : ℕ) (c : Child) → slice_get cs j ≡ Some c → slice_get r.children (k + j) ≡ Some c) →
+      Pairs EntersAt (child_entries (suc k) cs) (child_holes q.node ri (suc k) cs)
   children_enter [] k at = tt
   children_enter (c ∷ cs) k at =
       let z : k + 0 ≡ k = omega arith in

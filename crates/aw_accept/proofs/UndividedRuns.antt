@@ -15,10 +15,13 @@ use Rattle.std.proofs.lemmas.List.{length-map, same_from_push}
 use Rattle.std.proofs.lemmas.Option.{same_Some, option_and_then_some}
 use Rattle.aw_list.specs.Members.{Member}
 use Rattle.aw_list.proofs.Members.{never, member_map, member_unmap, member_got}
-use Rattle.aw_term.specs.Choices.{Choice, Start, Develop, Answer, NotItsRule, Arguments, Outcome, Refused, Starts, Takes, deep, after_guard, at_rule, at_state, at_row, not_held, outcome, start_row, taken, undivided}
+use Rattle.aw_term.specs.Choices.{Choice, Start, Develop, Answer, NotItsRule, Arguments, Outcome, Refused, Starts, Takes, deep, after_guard, at_rule}
+use Rattle.aw_term.specs.Choices.{at_state, at_row, not_held, outcome, start_row, taken, undivided}
 use Rattle.aw_accept.specs.Acyclic.{gives}
 use Rattle.aw_accept.proofs.Spots.{occ_of, moves}
-use Rattle.aw_accept.proofs.ConfigLemmas.{below-child, child_row, Member-insert_row, Member-inserted, Member-all_inserted, Member-rounds, Member-rounded, rounds-sort, rounds-state, rounds-results-length, done_row-cases, length-upto, upto-bound, upto-low, done_row-same}
+use Rattle.aw_accept.proofs.ConfigLemmas.{below-child, child_row, Member-insert_row, Member-inserted, Member-all_inserted, Member-rounds}
+use Rattle.aw_accept.proofs.ConfigLemmas.{Member-rounded, rounds-sort, rounds-state, rounds-results-length, done_row-cases, length-upto, upto-bound}
+use Rattle.aw_accept.proofs.ConfigLemmas.{upto-low, done_row-same}
 use Rattle.aw_accept.proofs.Developing.{Taking, develop-acyclic, added, sigma, e, FromChild, added_cases}
 use Rattle.aw_name.specs.SameNodes.{node_is, node_self}
 use Rattle.aw_term.proofs.RowParts.{rounds_node}
@@ -79,7 +82,8 @@ guard-takes n ru (Circle r) rule bs e = absurd cc
 
 -- what the tests of a rule say, whatever its guard reads
 pub tests-take : {A R : Type 0} (n : Node) (ru : Rule) (sort : ℕ) (args : List Ground) (m : Matched A R) (rule : Rule) (bs : List A)
-    → cond (nat_eq ru.sort sort) (cond (nat_eq (length args) ru.params) (after_guard n ru m) (Refused Arguments)) (Refused NotItsRule) ≡ Takes rule bs → (ru ≡ rule) × (ru.sort ≡ sort) × (length args ≡ ru.params) × (m ≡ Yes bs)
+    → cond (nat_eq ru.sort sort) (cond (nat_eq (length args) ru.params) (after_guard n ru m) (Refused Arguments)) (Refused NotItsRule) ≡ Takes rule
+    bs → (ru ≡ rule) × (ru.sort ≡ sort) × (length args ≡ ru.params) × (m ≡ Yes bs)
 tests-take n ru sort args m rule bs e =
     let (a, f) = cond-takes (nat_eq ru.sort sort) (cond (nat_eq (length args) ru.params) (after_guard n ru m) (Refused Arguments)) NotItsRule rule bs e in
     let (b, h) = cond-takes (nat_eq (length args) ru.params) (after_guard n ru m) Arguments rule bs f in
@@ -95,11 +99,13 @@ rule-takes (Some ru) n args q rule bs e =
     let (p, a, b, y) = tests-take n ru q.sort args (match_all 1 ru.patterns q.inherited) rule bs e in
     subst (λ ru'. RuleFacts (Some ru) args q ru' bs) p (refl, a, b, y)
 
-state-takes : (g : Grammar) (s : State) (n : Node) (ri : ℕ) (args : List Ground) (q : Row) (rule : Rule) (bs : List Value) → at_state s g n ri args q ≡ Takes rule bs → (s ≡ Pending) × RuleFacts (slice_get g.rules ri) args q rule bs
+state-takes : (g : Grammar) (s : State) (n : Node) (ri : ℕ) (args : List Ground) (q : Row) (rule : Rule) (bs : List Value) →
+    at_state s g n ri args q ≡ Takes rule bs → (s ≡ Pending) × RuleFacts (slice_get g.rules ri) args q rule bs
 state-takes g (Done a b) n ri args q rule bs e = absurd cc
 state-takes g Pending n ri args q rule bs e = (refl, rule-takes (slice_get g.rules ri) n args q rule bs e)
 
-pub decode_on : (g : Grammar) (c : Config) (o : Option Row) (n : Node) (ri : ℕ) (args : List Ground) (rule : Rule) (bs : List Value) → row_of n c ≡ o → at_row o g n ri args ≡ Takes rule bs → Decoded g c n ri args rule bs
+pub decode_on : (g : Grammar) (c : Config) (o : Option Row) (n : Node) (ri : ℕ) (args : List Ground) (rule : Rule) (bs : List Value) →
+    row_of n c ≡ o → at_row o g n ri args ≡ Takes rule bs → Decoded g c n ri args rule bs
 decode_on g c None n ri args rule bs f e = absurd cc
 decode_on g c (Some q) n ri args rule bs f e =
     let (a, b) = state-takes g q.state n ri args q rule bs e in
@@ -231,7 +237,8 @@ module _ (g : Grammar) (fit : IsGivenGrammar g) (rel : ℕ → ℕ → ℕ → T
           elim (origin z o) [
             | inl x ↦ len ∙ (ap (λ (r : Row). length r.results) x.3 ∙ (length-map (upto 1 x.1.outs) (λ j. Leaf (result (below q.node ri (suc x.0)) j)) ∙ (length-upto 1 x.1.outs
                 ∙ (fit.outs rule (member_got g.rules ri rule D.rule_is) x.0 x.1 x.2 ∙ ap (gives g) (sym (so ∙ ap (λ (r : Row). r.sort) x.3))))))
-            | inr x ↦ len ∙ (ap (λ (r : Row). length r.results) x.2 ∙ (ap length (done-same x.0).2 ∙ (good.0.many x.0 x.1 ∙ ap (gives g) (sym (so ∙ (ap (λ (r : Row). r.sort) x.2 ∙ (done-same x.0).1))))))
+            | inr x ↦ len ∙ (ap (λ (r : Row). length r.results) x.2
+                ∙ (ap length (done-same x.0).2 ∙ (good.0.many x.0 x.1 ∙ ap (gives g) (sym (so ∙ (ap (λ (r : Row). r.sort) x.2 ∙ (done-same x.0).1))))))
           ];
     }
 
@@ -281,7 +288,8 @@ module _ (g : Grammar) (fit : IsGivenGrammar g) (rel : ℕ → ℕ → ℕ → T
           ];
       many = λ y m.
           elim (Member-insert_row y row c m) [
-            | inl a ↦ ap (λ (r : Row). length r.results) a ∙ (length-map (upto 1 (gives g s)) (λ j. Leaf (result (root s k) j)) ∙ (length-upto 1 (gives g s) ∙ ap (gives g) (sym (ap (λ (r : Row). r.sort) a))))
+            | inl a ↦ ap (λ (r : Row). length r.results) a ∙ (length-map (upto 1 (gives g s)) (λ j. Leaf (result (root s k) j))
+                ∙ (length-upto 1 (gives g s) ∙ ap (gives g) (sym (ap (λ (r : Row). r.sort) a))))
             | inr o ↦ good.0.many y o
           ];
     }
@@ -349,7 +357,8 @@ module _ (g : Grammar) (fit : IsGivenGrammar g) (rel : ℕ → ℕ → ℕ → T
   pub undivided-acyclic : RunsAreAcyclic g rel
   undivided-acyclic xs z e = undivided-good [] xs z empty_good e
 
-  pub taken-leaves : (c : Config) (n : Node) (ri : ℕ) (args : List Ground) (o : Outcome Value Ref) (d : Config) → Good c → outcome g c (Develop n ri args) ≡ o → taken g c (Develop n ri args) o ≡ Some d → HasNoHoleOf n d
+  pub taken-leaves : (c : Config) (n : Node) (ri : ℕ) (args : List Ground) (o : Outcome Value Ref) (d : Config) → Good c →
+      outcome g c (Develop n ri args) ≡ o → taken g c (Develop n ri args) o ≡ Some d → HasNoHoleOf n d
   taken-leaves c n ri args (Refused a) d good e t = absurd cc
   taken-leaves c n ri args Starts d good e t = absurd cc
   taken-leaves c n ri args (Takes rule bs) d good e t =

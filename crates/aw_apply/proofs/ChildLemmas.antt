@@ -23,7 +23,8 @@ results_more n old base j e =
     let last : 1 + j ≡ j + 1 = omega arith in
     ap (λ xs. xs ++ result n (j + 1) ∷ []) e
     ∙ append_assoc base (map (result n) (upto 1 j)) (result n (j + 1) ∷ [])
-    ∙ ap (λ xs. base ++ xs) (ap (λ m. map (result n) (upto 1 j) ++ result n m ∷ []) (sym last) ∙ sym (map-append (result n) (upto 1 j) ((1 + j) ∷ [])) ∙ ap (map (result n)) (sym (upto_end 1 j) ∙ ap (upto 1) (sym step)))
+    ∙ ap (λ xs. base ++ xs) (ap (λ m. map (result n) (upto 1 j) ++ result n m ∷ []) (sym last) ∙ sym (map-append (result n) (upto 1 j) ((1 + j) ∷ []))
+    ∙ ap (map (result n)) (sym (upto_end 1 j) ∙ ap (upto 1) (sym step)))
 
 -- The nodes of a rule's children: one node more
 pub nodes_more : (n : Node) (r j : ℕ) (xs : List Node) → xs ≡ map (below n r) (upto 1 j) → xs ++ below n r (j + 1) ∷ [] ≡ map (below n r) (upto 1 (j + 1))
@@ -67,7 +68,8 @@ refs_more n r sorts cs i x at old new base l e f g w =
     ∙ w
 
 -- the symbols of the children from a place on
-pub child_more : (sorts : List Sort) (cs : List Child) (i : ℕ) (x : Child) → i < length cs → x ≡ get_or cs i x → child_symbols (map (child_of sorts) (drop i cs)) ≡ symbols_of (map term_of x.args) + child_symbols (map (child_of sorts) (drop (i + 1) cs))
+pub child_more : (sorts : List Sort) (cs : List Child) (i : ℕ) (x : Child) → i < length cs → x ≡ get_or cs i x →
+    child_symbols (map (child_of sorts) (drop i cs)) ≡ symbols_of (map term_of x.args) + child_symbols (map (child_of sorts) (drop (i + 1) cs))
 child_more sorts cs i x l e = ap (λ ys. child_symbols (map (child_of sorts) ys)) (at_drop_more (λ ys. ys) cs i x l ∙ ap (λ y. y ∷ drop (i + 1) cs) (sym e))
 
 pub symbols_apart : (s t : List Sort) (cs : List Child) → child_symbols (map (child_of s) cs) ≡ child_symbols (map (child_of t) cs)
@@ -79,8 +81,10 @@ abbrev pub child_at : Node → Laid (List Ref) → Laid MadeChild
 child_at n l = record { roots = record { node = n; inherited = l.roots }; equations = l.equations; next = l.next }
 
 -- one more child
-pub one_called : (old new : List Equation) (cs ds : List MadeChild) (k m : ℕ) (node low : Node) (roots : List Ref) (next : ℕ) (l : Laid (List Ref)) → node ≡ low → record { roots = roots; equations = new; next = next } ≡ laid_behind old l →
-    ds ≡ cs ++ record { node = node; inherited = roots } ∷ [] → m ≡ next → record { roots = ds; equations = new; next = m } ≡ with_one (record { roots = cs; equations = old; next = k }) (child_at low l)
+pub one_called : (old new : List Equation) (cs ds : List MadeChild) (k m : ℕ) (node low : Node) (roots : List Ref) (next : ℕ) (l : Laid (List Ref)) →
+    node ≡ low → record { roots = roots; equations = new; next = next } ≡ laid_behind old l →
+    ds ≡ cs ++ record { node = node; inherited = roots } ∷ [] → m ≡ next → record { roots = ds; equations = new; next = m } ≡ with_one
+    (record { roots = cs; equations = old; next = k }) (child_at low l)
 one_called old new cs ds k m node low roots next l en el ed em =
     λ i. record {
       roots = (ed ∙ ap (λ z. cs ++ record { node = z; inherited = roots } ∷ []) en ∙ ap (λ (z : Laid (List Ref)). cs ++ record { node = low; inherited = z.roots } ∷ []) el) i;
@@ -92,11 +96,13 @@ abbrev values_at : Node → (ℕ → Ref) → ℕ → Child → Laid (List Ref)
 values_at n f k c = lay_list n f k (map term_of c.args)
 
 children_more : (n : Node) (r : ℕ) (f : ℕ → Ref) (m k : ℕ) (sorts : List Sort) (cs : List Child) (i : ℕ) (x : Child) → i < length cs → x ≡ get_or cs i x →
-    as_children (lay_children n r f m k (map (child_of sorts) (drop i cs))) ≡ before (child_at (below n r m) (values_at n f k x)) (as_children (lay_children n r f (suc m) (values_at n f k x).next (map (child_of sorts) (drop (i + 1) cs))))
+    as_children (lay_children n r f m k (map (child_of sorts) (drop i cs))) ≡ before (child_at (below n r m) (values_at n f k x))
+    (as_children (lay_children n r f (suc m) (values_at n f k x).next (map (child_of sorts) (drop (i + 1) cs))))
 children_more n r f m k sorts cs i x l e = ap (λ ys. as_children (lay_children n r f m k (map (child_of sorts) ys))) (at_drop_more (λ ys. ys) cs i x l ∙ ap (λ y. y ∷ drop (i + 1) cs) (sym e))
 
 -- one more child was laid down, and the rest follows it
-pub called_more : (n : Node) (r : ℕ) (f : ℕ → Ref) (m : ℕ) (sorts : List Sort) (cs : List Child) (i : ℕ) (x : Child) (a b : Laid (List MadeChild)) (one : Laid MadeChild) (whole : Laid (List MadeChild)) → i < length cs → x ≡ get_or cs i x →
+pub called_more : (n : Node) (r : ℕ) (f : ℕ → Ref) (m : ℕ) (sorts : List Sort) (cs : List Child) (i : ℕ) (x : Child) (a b : Laid (List MadeChild))
+    (one : Laid MadeChild) (whole : Laid (List MadeChild)) → i < length cs → x ≡ get_or cs i x →
     one ≡ child_at (below n r m) (lay_list n f a.next (map term_of x.args)) → b ≡ with_one a one →
     joined a (as_children (lay_children n r f m a.next (map (child_of sorts) (drop i cs)))) ≡ whole →
     joined b (as_children (lay_children n r f (suc m) b.next (map (child_of sorts) (drop (i + 1) cs)))) ≡ whole
@@ -107,7 +113,8 @@ called_more n r f m sorts cs i x a b one whole l e o p w =
     ∙ ap (joined a) (sym (children_more n r f m a.next sorts cs i x l e))
     ∙ w
 
-pub called_next : (n : Node) (r : ℕ) (f : ℕ → Ref) (m : ℕ) (x : Child) (a b : Laid (List MadeChild)) (one : Laid MadeChild) → one ≡ child_at (below n r m) (lay_list n f a.next (map term_of x.args)) → b ≡ with_one a one → b.next ≤ a.next + symbols_of (map term_of x.args)
+pub called_next : (n : Node) (r : ℕ) (f : ℕ → Ref) (m : ℕ) (x : Child) (a b : Laid (List MadeChild)) (one : Laid MadeChild) →
+    one ≡ child_at (below n r m) (lay_list n f a.next (map term_of x.args)) → b ≡ with_one a one → b.next ≤ a.next + symbols_of (map term_of x.args)
 called_next n r f m x a b one o p = omega (arith, ap (λ (z : Laid (List MadeChild)). z.next) p, ap (λ (z : Laid MadeChild). z.next) o, lay_list-next n f a.next (map term_of x.args))
 
 pub children-next : (n : Node) (r : ℕ) (f : ℕ → Ref) (m k : ℕ) (cs : List R.Child) → (lay_children n r f m k cs).next ≤ k + child_symbols cs

@@ -1,5 +1,6 @@
 -- Guards over equations, slot by slot.
-use Rattle.std.proofs.Common.{◌≡◌, ℕ, zero, suc, ◌+◌, ◌<◌, true, false, cond, List, [], ◌∷◌, ◌++◌, length, map, drop, get_or, Option, Some, None, refl, ap, sym, subst, ◌∙◌, arith, append_assoc, append-nil}
+use Rattle.std.proofs.Common.{◌≡◌, ℕ, zero, suc, ◌+◌, ◌<◌, true, false, cond, List, [], ◌∷◌, ◌++◌, length, map, drop, get_or, Option, Some, None, refl}
+use Rattle.std.proofs.Common.{ap, sym, subst, ◌∙◌, arith, append_assoc, append-nil}
 use Rattle.std.specs.Prelude.{slice_get, option_and_then, ◌&&◌, nat_eq}
 use Rattle.std.proofs.Math.Bool.{and-true}
 use Rattle.std.proofs.lemmas.Bool.{eqb-true, and_parts}
@@ -39,7 +40,8 @@ chased_missing k names slot end (Found h parts) w = elim w [ ]
 chased_missing k names slot end (Missing r) w = (r, refl, w)
 chased_missing k names slot end Round w = elim w [ ]
 
-pub chased_found : (k : Map) (names : List Ref) (slot end : ℕ) (x : Chased) → IsChasedTo k names slot x (answer.Found end) → (h : Head) × (parts : List Ref) × (x ≡ Found h parts) × (body_at k names end ≡ Some (Is h parts)) × (end < length names)
+pub chased_found : (k : Map) (names : List Ref) (slot end : ℕ) (x : Chased) → IsChasedTo k names slot x (answer.Found end) → (h : Head)
+    × (parts : List Ref) × (x ≡ Found h parts) × (body_at k names end ≡ Some (Is h parts)) × (end < length names)
 chased_found k names slot end (Found h parts) w = (h, parts, refl, ap (option_and_then (find k)) w.1 ∙ w.2, slice_get_within names end w.0 w.1)
 chased_found k names slot end (Missing r) w = elim w [ ]
 chased_found k names slot end Round w = elim w [ ]
@@ -67,19 +69,22 @@ is_here names (Some (Same r)) (kind.Num n) w m s = elim w [ ]
 is_here names (Some (Same r)) kind.Text w m s = elim w [ ]
 
 -- what one look tells of a chase
-pub missing_here : (k : Map) (names : List Ref) (slot : ℕ) (r : Ref) → slice_get names slot ≡ Some r → IsKindOf names (body_at k names slot) kind.Missing → IsChasedTo k names slot (chase k r) (answer.Missing slot)
+pub missing_here : (k : Map) (names : List Ref) (slot : ℕ) (r : Ref) → slice_get names slot ≡ Some r → IsKindOf names (body_at k names slot)
+    kind.Missing → IsChasedTo k names slot (chase k r) (answer.Missing slot)
 missing_here k names slot r e w =
     let b = ap (option_and_then (find k)) (sym e) ∙ none_of names (body_at k names slot) w in
     subst (λ x. IsChasedTo k names slot x (answer.Missing slot)) (sym (chase_in-none (length k) k r b)) e
 
-pub found_here : (k : Map) (names : List Ref) (slot : ℕ) (x : Kind) (r : Ref) → slice_get names slot ≡ Some r → IsKindOf names (body_at k names slot) x → (x ≡ kind.Missing → ⊥) → ((s : ℕ) → x ≡ kind.Same s → ⊥) → IsChasedTo k names slot (chase k r) (answer.Found slot)
+pub found_here : (k : Map) (names : List Ref) (slot : ℕ) (x : Kind) (r : Ref) → slice_get names slot ≡ Some r → IsKindOf names (body_at k names slot)
+    x → (x ≡ kind.Missing → ⊥) → ((s : ℕ) → x ≡ kind.Same s → ⊥) → IsChasedTo k names slot (chase k r) (answer.Found slot)
 found_here k names slot x r e w m s =
     let (h, parts, f) = is_here names (body_at k names slot) x w m s in
     let b = ap (option_and_then (find k)) (sym e) ∙ f in
     subst (λ y. IsChasedTo k names slot y (answer.Found slot)) (sym (chase_in-is (length k) k r h parts b)) (r, e, b)
 
 -- the end of a chase from a live slot is a live slot
-pub found_live : (k : Map) (names : List Ref) (slot end : ℕ) → slot < length names → ((r : Ref) → slice_get names slot ≡ Some r → IsChasedTo k names slot (chase k r) (answer.Found end)) → end < length names
+pub found_live : (k : Map) (names : List Ref) (slot end : ℕ) → slot < length names →
+    ((r : Ref) → slice_get names slot ≡ Some r → IsChasedTo k names slot (chase k r) (answer.Found end)) → end < length names
 found_live k names slot end l w = let (r, e) = name_at names slot l in (chased_found k names slot end _ (w r e)).4
 
 pub end_differs : (k : Map) (names : List Ref) (slot end : ℕ) (bs : List (Option Ref)) (path : List ℕ) (x : Chased) (go : List Ref → Matched Ref Ref) (h : Head) (n : ℕ) (r : Ref) →
@@ -92,7 +97,9 @@ end_differs k names slot end bs path x go h n r w t =
     ∙ ap (λ y. and_then (Yes bs) (behind path (as_named (guard_end y go h n r)))) (sym e)
 
 pub end_goes : (k : Map) (names : List Ref) (slot end : ℕ) (bs : List (Option Ref)) (path : List ℕ) (x : Chased) (go : List Ref → Matched Ref Ref) (h : Head) (n : ℕ) (r : Ref) →
-    IsChasedTo k names slot x (answer.Found end) → is_head h n (body_at k names end) ≡ true → (parts : List Ref) × (body_at k names end ≡ Some (Is h parts)) × (n ≡ length parts) × (and_then (Yes bs) (behind path (as_named (go parts))) ≡ and_then (Yes bs) (behind path (as_named (guard_end x go h n r))))
+    IsChasedTo k names slot x (answer.Found end) → is_head h n (body_at k names end) ≡ true → (parts : List Ref)
+    × (body_at k names end ≡ Some (Is h parts)) × (n ≡ length parts) × (and_then (Yes bs) (behind path (as_named (go parts))) ≡ and_then (Yes bs)
+    (behind path (as_named (guard_end x go h n r))))
 end_goes k names slot end bs path x go h n r w t =
     let (j, parts, e, b, l) = chased_found k names slot end x w in
     let t' : (head_eq h j && nat_eq n (length parts)) ≡ true = ap (is_head h n) (sym b) ∙ t in
@@ -141,13 +148,15 @@ behind_parts q n (Circle r) b = refl
 pub part_at : (rs : List Ref) (i : ℕ) (r : Ref) → slice_get rs i ≡ Some r → drop i rs ≡ r ∷ drop (i + 1) rs
 part_at rs i r e = drop_more rs i r (slice_get_within rs i r e) ∙ ap (λ x. x ∷ drop (i + 1) rs) (get_or_from_slice_get rs i r r e)
 
-from_more : (k : Map) (n i : ℕ) (ps : List Pattern) (rs : List Ref) (p : Pattern) (r : Ref) → i < length ps → p ≡ get_or ps i p → slice_get rs i ≡ Some r → from k n i ps rs ≡ and_then (under n (guard k (pattern_of p) r)) (from k (suc n) (i + 1) ps rs)
+from_more : (k : Map) (n i : ℕ) (ps : List Pattern) (rs : List Ref) (p : Pattern) (r : Ref) → i < length ps → p ≡ get_or ps i p →
+    slice_get rs i ≡ Some r → from k n i ps rs ≡ and_then (under n (guard k (pattern_of p) r)) (from k (suc n) (i + 1) ps rs)
 from_more k n i ps rs p r l e f =
     ap (λ zs. guard_parts k n (join (map pattern_of zs)) (drop i rs)) (at_drop_more (λ zs. zs) ps i p l ∙ ap (λ z. z ∷ drop (i + 1) ps) (sym e))
     ∙ ap (guard_parts k n (More (pattern_of p) (join (map pattern_of (drop (i + 1) ps))))) (part_at rs i r f)
 
 -- one more part has given this, and the rest follows it
-pub one_more : (k : Map) (q here : List ℕ) (n i : ℕ) (ps : List Pattern) (rs : List Ref) (p : Pattern) (r : Ref) (xs : List (Option Ref)) (s whole : N) → i < length ps → p ≡ get_or ps i p → slice_get rs i ≡ Some r → here ≡ q ++ n ∷ [] →
+pub one_more : (k : Map) (q here : List ℕ) (n i : ℕ) (ps : List Pattern) (rs : List Ref) (p : Pattern) (r : Ref) (xs : List (Option Ref))
+    (s whole : N) → i < length ps → p ≡ get_or ps i p → slice_get rs i ≡ Some r → here ≡ q ++ n ∷ [] →
     s ≡ and_then (Yes xs) (behind here (as_named (guard k (pattern_of p) r))) →
     and_then (Yes xs) (behind q (as_named (from k n i ps rs))) ≡ whole →
     and_then s (behind q (as_named (from k (suc n) (i + 1) ps rs))) ≡ whole
@@ -180,19 +189,22 @@ abbrev pub all_from : Map → ℕ → ℕ → List Pattern → List Ref → Matc
 all_from k n i ps rs = guard_all k n (map pattern_of (drop i ps)) (drop i rs)
 
 -- the reference that one of these slots names
-named_slot : (names : List Ref) (slots : List ℕ) (rs : List Ref) (i : ℕ) → AreNamed names slots rs → i < length slots → (r : Ref) × (slice_get rs i ≡ Some r) × (slice_get names (get_or slots i 0) ≡ Some r)
+named_slot : (names : List Ref) (slots : List ℕ) (rs : List Ref) (i : ℕ) → AreNamed names slots rs → i < length slots → (r : Ref)
+    × (slice_get rs i ≡ Some r) × (slice_get names (get_or slots i 0) ≡ Some r)
 named_slot names [] rs i w l = absurd (omega (arith, l))
 named_slot names (x ∷ slots) [] i w l = absurd cc
 named_slot names (x ∷ slots) (r ∷ rs) zero w l = let f : slice_get names x ≡ Some r = cc in (r, refl, f)
 named_slot names (x ∷ slots) (r ∷ rs) (suc i) w l = let f : AreNamed names slots rs = cc in named_slot names slots rs i f (omega (arith, l))
 
-all_more : (k : Map) (n i : ℕ) (ps : List Pattern) (rs : List Ref) (p : Pattern) (r : Ref) → i < length ps → p ≡ get_or ps i p → slice_get rs i ≡ Some r → all_from k n i ps rs ≡ and_then (under n (guard k (pattern_of p) r)) (all_from k (suc n) (i + 1) ps rs)
+all_more : (k : Map) (n i : ℕ) (ps : List Pattern) (rs : List Ref) (p : Pattern) (r : Ref) → i < length ps → p ≡ get_or ps i p →
+    slice_get rs i ≡ Some r → all_from k n i ps rs ≡ and_then (under n (guard k (pattern_of p) r)) (all_from k (suc n) (i + 1) ps rs)
 all_more k n i ps rs p r l e f =
     ap (λ zs. guard_all k n (map pattern_of zs) (drop i rs)) (at_drop_more (λ zs. zs) ps i p l ∙ ap (λ z. z ∷ drop (i + 1) ps) (sym e))
     ∙ ap (guard_all k n (pattern_of p ∷ map pattern_of (drop (i + 1) ps))) (part_at rs i r f)
 
 -- one attribute, and then the others
-under_named : (n : ℕ) (xs : List (Option Ref)) (a b : Matched Ref Ref) → and_then (Yes xs) (as_named (and_then (under n a) b)) ≡ and_then (under n (and_then (Yes xs) (behind [] (as_named a)))) (as_named b)
+under_named : (n : ℕ) (xs : List (Option Ref)) (a b : Matched Ref Ref) → and_then (Yes xs) (as_named (and_then (under n a) b)) ≡ and_then
+    (under n (and_then (Yes xs) (behind [] (as_named a)))) (as_named b)
 under_named n xs (Yes ys) (Yes zs) = ap (λ t. Yes (xs ++ t)) (map-append Some ys zs) ∙ ap Yes (sym (append_assoc xs (map Some ys) (map Some zs)))
 under_named n xs (Yes ys) (Waits r) = refl
 under_named n xs (Yes ys) (Differs p) = refl

@@ -65,14 +65,17 @@ lay_list-next n f k [] = omega arith
 lay_list-next n f k (t ∷ ts) = omega (arith, lay-next n f k t, lay_list-next n f (lay n f k t).next ts)
 
 -- the rest of a list of things, from a place on
-pub list_more : {X L : Type 0} (n : Node) (f : L → Ref) (g : X → Tree L) (xs : List X) (i : ℕ) (x : X) (k : ℕ) → i < length xs → x ≡ get_or xs i x → lay_list n f k (map g (drop i xs)) ≡ before (lay n f k (g x)) (lay_list n f (lay n f k (g x)).next (map g (drop (i + 1) xs)))
+pub list_more : {X L : Type 0} (n : Node) (f : L → Ref) (g : X → Tree L) (xs : List X) (i : ℕ) (x : X) (k : ℕ) → i < length xs → x ≡ get_or xs i x →
+    lay_list n f k (map g (drop i xs)) ≡ before (lay n f k (g x)) (lay_list n f (lay n f k (g x)).next (map g (drop (i + 1) xs)))
 list_more n f g xs i x k l e = ap (λ ys. lay_list n f k (map g ys)) (at_drop_more (λ ys. ys) xs i x l ∙ ap (λ y. y ∷ drop (i + 1) xs) (sym e))
 
-pub symbols_more : {X L : Type 0} (g : X → Tree L) (xs : List X) (i : ℕ) (x : X) → i < length xs → x ≡ get_or xs i x → symbols_of (map g (drop i xs)) ≡ symbols (g x) + symbols_of (map g (drop (i + 1) xs))
+pub symbols_more : {X L : Type 0} (g : X → Tree L) (xs : List X) (i : ℕ) (x : X) → i < length xs → x ≡ get_or xs i x →
+    symbols_of (map g (drop i xs)) ≡ symbols (g x) + symbols_of (map g (drop (i + 1) xs))
 symbols_more g xs i x l e = ap (λ ys. symbols_of (map g ys)) (at_drop_more (λ ys. ys) xs i x l ∙ ap (λ y. y ∷ drop (i + 1) xs) (sym e))
 
 -- one more was laid down, the rest follows it, and the part numbers go on
-pub laid_more : {X L : Type 0} (n : Node) (f : L → Ref) (g : X → Tree L) (xs : List X) (i : ℕ) (x : X) (a b : Laid (List Ref)) (one : Laid Ref) (whole : Laid (List Ref)) (most : ℕ) → i < length xs → x ≡ get_or xs i x →
+pub laid_more : {X L : Type 0} (n : Node) (f : L → Ref) (g : X → Tree L) (xs : List X) (i : ℕ) (x : X) (a b : Laid (List Ref)) (one : Laid Ref)
+    (whole : Laid (List Ref)) (most : ℕ) → i < length xs → x ≡ get_or xs i x →
     one ≡ lay n f a.next (g x) → b ≡ with_one a one →
     (joined a (lay_list n f a.next (map g (drop i xs))) ≡ whole) × (a.next + symbols_of (map g (drop i xs)) ≤ most) →
     (joined b (lay_list n f b.next (map g (drop (i + 1) xs))) ≡ whole) × (b.next + symbols_of (map g (drop (i + 1) xs)) ≤ most)
@@ -94,7 +97,8 @@ symbols_within g (y ∷ ys) (suc i) x l e = omega (arith, symbols_within g ys i 
 abbrev pub head_over : Node → ℕ → Body → List Equation → ℕ → Laid Ref
 head_over n k body parts next = record { roots = part n k; equations = record { left = part n k; body = body } ∷ parts; next = next }
 
-pub symbol_laid : {L : Type 0} (n : Node) (f : L → Ref) (k : ℕ) (h : Head) (body : Body) (ts : List (Tree L)) (all : Laid (List Ref)) (t : Tree L) → all ≡ lay_list n f (k + 1) ts → body ≡ Is h all.roots → t ≡ Made h (join ts) →
+pub symbol_laid : {L : Type 0} (n : Node) (f : L → Ref) (k : ℕ) (h : Head) (body : Body) (ts : List (Tree L)) (all : Laid (List Ref)) (t : Tree L) →
+    all ≡ lay_list n f (k + 1) ts → body ≡ Is h all.roots → t ≡ Made h (join ts) →
     head_over n k body all.equations all.next ≡ lay n f k t
 symbol_laid n f k h body ts all t ea eb et =
     let one : k + 1 ≡ suc k = omega arith in
@@ -104,7 +108,8 @@ symbol_laid n f k h body ts all t ea eb et =
     ∙ ap (lay n f k) (sym et)
 
 -- a body that is written at a place, through the view
-pub body_set : (es : List declared_equation.Equation) (i : ℕ) (d : declared_equation.Equation) (b : declared_body.Body) → i < length es → map equation_of (set es i (record { left = (get_or es i d).left; body = b })) ≡ with_body i (body_of b) (map equation_of es)
+pub body_set : (es : List declared_equation.Equation) (i : ℕ) (d : declared_equation.Equation) (b : declared_body.Body) → i < length es →
+    map equation_of (set es i (record { left = (get_or es i d).left; body = b })) ≡ with_body i (body_of b) (map equation_of es)
 body_set [] i d b l = absurd (omega (arith, l))
 body_set (e ∷ es) zero d b l = refl
 body_set (e ∷ es) (suc i) d b l = ap (λ z. equation_of e ∷ z) (body_set es i d b (omega (arith, l)))
@@ -115,7 +120,8 @@ body_written [] e b es = refl
 body_written (x ∷ old) e b es = ap (λ z. x ∷ z) (body_written old e b es)
 
 -- a place was kept, the parts were laid down behind it, and then the body was written
-pub written : (old mid new : List Equation) (at : ℕ) (e : Equation) (b : Body) (parts : List Equation) → at ≡ length old → mid ≡ old ++ e ∷ [] → new ≡ with_body at b (mid ++ parts) → new ≡ old ++ record { left = e.left; body = b } ∷ parts
+pub written : (old mid new : List Equation) (at : ℕ) (e : Equation) (b : Body) (parts : List Equation) → at ≡ length old → mid ≡ old ++ e ∷ [] →
+    new ≡ with_body at b (mid ++ parts) → new ≡ old ++ record { left = e.left; body = b } ∷ parts
 written old mid new at e b parts ea em en =
     en
     ∙ ap (λ i. with_body i b (mid ++ parts)) ea
@@ -138,7 +144,8 @@ pub leaf_laid : {L : Type 0} (n : Node) (f : L → Ref) (k : ℕ) (x : L) (t : T
     record { roots = ss; equations = es; next = m } ≡ with_one (record { roots = rs; equations = es; next = k }) (lay n f k t)
 leaf_laid n f k x t es rs ss m e er em =
     let none : es ≡ es ++ [] = sym (append-nil es) in
-    let whole : record { roots = ss; equations = es; next = m } ≡ with_one (record { roots = rs; equations = es; next = k }) (lay n f k (Leaf x)) = λ i. record { roots = er i; equations = none i; next = em i } in
+    let whole : record { roots = ss; equations = es; next = m } ≡ with_one (record { roots = rs; equations = es; next = k }) (lay n f k (Leaf x)) =
+    λ i. record { roots = er i; equations = none i; next = em i } in
     whole ∙ ap (λ z. with_one (record { roots = rs; equations = es; next = k }) (lay n f k z)) (sym e)
 
 -- a constructor whose place was kept, over its parts, stands behind what was laid down before
@@ -147,8 +154,10 @@ pub con_laid : {L : Type 0} (n : Node) (f : L → Ref) (k : ℕ) (h : Head) (ts 
     b ≡ record { roots = a.roots ++ part n k ∷ []; equations = with_body at (Is h inner.roots) inner.equations; next = inner.next } → b ≡ with_one a (lay n f k t)
 con_laid n f k h ts t old mid at place inner a b ea em el et eo eb =
     let l = lay_list n f (k + 1) ts in
-    let w = written old mid (with_body at (Is h inner.roots) inner.equations) at (record { left = part n k; body = place }) (Is h l.roots) l.equations ea em (ap (λ (z : Laid (List Ref)). with_body at (Is h z.roots) z.equations) el) in
-    let whole : record { roots = a.roots ++ part n k ∷ []; equations = with_body at (Is h inner.roots) inner.equations; next = inner.next } ≡ with_one a (head_over n k (Is h l.roots) l.equations l.next) =
+    let w = written old mid (with_body at (Is h inner.roots) inner.equations) at (record { left = part n k; body = place }) (Is h l.roots) l.equations
+    ea em (ap (λ (z : Laid (List Ref)). with_body at (Is h z.roots) z.equations) el) in
+    let whole : record { roots = a.roots ++ part n k ∷ []; equations = with_body at (Is h inner.roots) inner.equations; next = inner.next } ≡ with_one
+    a (head_over n k (Is h l.roots) l.equations l.next) =
     λ i. record { roots = a.roots ++ part n k ∷ []; equations = (w ∙ ap (λ z. z ++ record { left = part n k; body = Is h l.roots } ∷ l.equations) (sym eo)) i; next = (el i).next } in
     eb ∙ whole ∙ ap (with_one a) (symbol_laid n f k h (Is h l.roots) ts l t refl refl et)
 

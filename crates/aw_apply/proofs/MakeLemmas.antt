@@ -21,7 +21,8 @@ use Rattle.aw_apply.specs.declared.making.MadeChild.{MadeChild}
 use Rattle.aw_apply.proofs.LayLemmas.{lay_list-join, lays-next}
 
 -- a result that is a constructor
-pub result_equations : (n : Node) (f : ℕ → Ref) (k j : ℕ) (h : Head) (left : Ref) (body : Body) (ts : List Term) (all : Laid (List Ref)) (t : Term) → all ≡ lay_list n f k ts → body ≡ Is h all.roots → left ≡ result n j → t ≡ Made h (join ts) →
+pub result_equations : (n : Node) (f : ℕ → Ref) (k j : ℕ) (h : Head) (left : Ref) (body : Body) (ts : List Term) (all : Laid (List Ref)) (t : Term) →
+    all ≡ lay_list n f k ts → body ≡ Is h all.roots → left ≡ result n j → t ≡ Made h (join ts) →
     record { left = left; body = body } ∷ all.equations ≡ (lay_result n f k j t).equations
 result_equations n f k j h left body ts all t ea eb el et =
     ap (λ b. record { left = left; body = b } ∷ all.equations) eb
@@ -29,7 +30,8 @@ result_equations n f k j h left body ts all t ea eb el et =
     ∙ ap (λ (a : Laid (List Ref)). record { left = result n j; body = Is h a.roots } ∷ a.equations) (ea ∙ sym (lay_list-join n f k ts))
     ∙ ap (λ z. (lay_result n f k j z).equations) (sym et)
 
-pub result_next : (n : Node) (f : ℕ → Ref) (k j : ℕ) (h : Head) (ts : List Term) (all : Laid (List Ref)) (t : Term) → all ≡ lay_list n f k ts → t ≡ Made h (join ts) → all.next ≡ (lay_result n f k j t).next
+pub result_next : (n : Node) (f : ℕ → Ref) (k j : ℕ) (h : Head) (ts : List Term) (all : Laid (List Ref)) (t : Term) → all ≡ lay_list n f k ts →
+    t ≡ Made h (join ts) → all.next ≡ (lay_result n f k j t).next
 result_next n f k j h ts all t ea et =
     ap (λ (a : Laid (List Ref)). a.next) (ea ∙ sym (lay_list-join n f k ts)) ∙ ap (λ z. (lay_result n f k j z).next) (sym et)
 
@@ -60,7 +62,8 @@ entered_all n f old new bound all gs hs e more el eh ea =
     }
 
 -- the three groups together
-pub made_all : (n : Node) (r : ℕ) (rule : Rule) (args : List Ground) (old first second third : List declared_equation.Equation) (bound all known : List Ref) (next : ℕ) (called : Called) (cs : List Child) (ts : List Term) →
+pub made_all : (n : Node) (r : ℕ) (rule : Rule) (args : List Ground) (old first second third : List declared_equation.Equation)
+    (bound all known : List Ref) (next : ℕ) (called : Called) (cs : List Child) (ts : List Term) →
     HasEntered old first bound all next (lay_list n (λ x. elim x [ ]) 1 args) (child_refs n r 1 rule.children) → known ≡ all → cs ≡ rule.children → ts ≡ rule.results →
     AreCalled first second called (all_children n r known next cs) → map equation_of third ≡ map equation_of second ++ lay_results n (get (no_ref n) known) called.next 1 ts →
     IsMade old third called.children.items (made n r rule args bound)
@@ -75,7 +78,8 @@ made_all n r rule args old first second third bound all known next called cs ts 
     let given = lay_results n (get (no_ref n) refs) c.next 1 rule.results in
     let results : lay_results n (get (no_ref n) known) called.next 1 ts ≡ given = λ i. lay_results n (get (no_ref n) (k i)) (calls i).next 1 (et i) in
     let both : map equation_of second ++ lay_results n (get (no_ref n) known) called.next 1 ts ≡ (map equation_of first ++ c.equations) ++ given = λ i. (calls i).equations ++ results i in record {
-      equations = el ∙ both ∙ ap (λ z. (z ++ c.equations) ++ given) entered.laid ∙ append_assoc (map equation_of old ++ a.equations) c.equations given ∙ append_assoc (map equation_of old) a.equations (c.equations ++ given);
+      equations = el ∙ both ∙ ap (λ z. (z ++ c.equations) ++ given) entered.laid ∙ append_assoc (map equation_of old ++ a.equations) c.equations given
+          ∙ append_assoc (map equation_of old) a.equations (c.equations ++ given);
       children = ap (λ (z : Laid (List MadeChild)). z.roots) calls;
     }
 

@@ -70,7 +70,8 @@ module _ {L : Type 0} (n : Node) (f : L → Ref) (c : ℕ) where
     lay-apart (Made h ts) i =
         let (le, a) = lays-apart ts (suc i) in (
           omega (arith, le),
-          Apart-append n i (suc i) (lays n f (suc i) ts).next c c c (record { left = part n i; body = Is h (lays n f (suc i) ts).roots } ∷ []) (lays n f (suc i) ts).equations (omega arith) le (omega arith) (omega arith)
+          Apart-append n i (suc i) (lays n f (suc i) ts).next c c c (record { left = part n i; body = Is h (lays n f (suc i) ts).roots } ∷ [])
+              (lays n f (suc i) ts).equations (omega arith) le (omega arith) (omega arith)
               (one_apart n i (suc i) c c (record { left = part n i; body = Is h (lays n f (suc i) ts).roots }) (refl, (omega arith, omega arith))) a,
         )
 
@@ -78,30 +79,40 @@ module _ {L : Type 0} (n : Node) (f : L → Ref) (c : ℕ) where
     lays-apart Nil i = (omega arith, none_apart n i c)
     lays-apart (More t ts) i =
         let (le, a) = lay-apart t i in
-        let (le', b) = lays-apart ts (lay n f i t).next in
-        (omega (arith, le, le'), Apart-append n i (lay n f i t).next (lays n f (lay n f i t).next ts).next c c c (lay n f i t).equations (lays n f (lay n f i t).next ts).equations le le' (omega arith) (omega arith) a b)
+        let (le', b) = lays-apart ts (lay n f i t).next in (
+          omega (arith, le, le'),
+          Apart-append n i (lay n f i t).next (lays n f (lay n f i t).next ts).next c c c (lay n f i t).equations
+              (lays n f (lay n f i t).next ts).equations le le' (omega arith) (omega arith) a b,
+        )
 
   pub lay_list-apart : (ts : List (Tree L)) (i : ℕ) → (i ≤ (lay_list n f i ts).next) × Apart n i (lay_list n f i ts).next c c (lay_list n f i ts).equations
   lay_list-apart [] i = (omega arith, none_apart n i c)
   lay_list-apart (t ∷ ts) i =
       let (le, a) = lay-apart t i in
-      let (le', b) = lay_list-apart ts (lay n f i t).next in
-      (omega (arith, le, le'), Apart-append n i (lay n f i t).next (lay_list n f (lay n f i t).next ts).next c c c (lay n f i t).equations (lay_list n f (lay n f i t).next ts).equations le le' (omega arith) (omega arith) a b)
+      let (le', b) = lay_list-apart ts (lay n f i t).next in (
+        omega (arith, le, le'),
+        Apart-append n i (lay n f i t).next (lay_list n f (lay n f i t).next ts).next c c c (lay n f i t).equations
+            (lay_list n f (lay n f i t).next ts).equations le le' (omega arith) (omega arith) a b,
+      )
 
 module _ (n : Node) (r : ℕ) (f : ℕ → Ref) where
   lay_children-apart : (cs : List Child) (i k : ℕ) → (k ≤ (lay_children n r f i k cs).next) × Apart n k (lay_children n r f i k cs).next 1 1 (lay_children n r f i k cs).equations
   lay_children-apart [] i k = (omega arith, none_apart n k 1)
   lay_children-apart (d ∷ cs) i k =
       let (le, a) = lay_list-apart n f 1 d.args k in
-      let (le', b) = lay_children-apart cs (suc i) (lay_list n f k d.args).next in
-      (omega (arith, le, le'), Apart-append n k (lay_list n f k d.args).next (lay_children n r f (suc i) (lay_list n f k d.args).next cs).next 1 1 1 (lay_list n f k d.args).equations (lay_children n r f (suc i) (lay_list n f k d.args).next cs).equations le le' (omega arith) (omega arith) a b)
+      let (le', b) = lay_children-apart cs (suc i) (lay_list n f k d.args).next in (
+        omega (arith, le, le'),
+        Apart-append n k (lay_list n f k d.args).next (lay_children n r f (suc i) (lay_list n f k d.args).next cs).next 1 1 1
+            (lay_list n f k d.args).equations (lay_children n r f (suc i) (lay_list n f k d.args).next cs).equations le le' (omega arith) (omega arith) a b,
+      )
 
   lay_result-apart : (t : Term) (k j : ℕ) → (k ≤ (lay_result n f k j t).next) × Apart n k (lay_result n f k j t).next j (suc j) (lay_result n f k j t).equations
   lay_result-apart (Leaf v) k j = (omega arith, one_apart n k k j (suc j) (record { left = result n j; body = Same (f v) }) (refl, (omega arith, omega arith)))
   lay_result-apart (Made h ts) k j =
       let (le, a) = lays-apart n f (suc j) ts k in (
         le,
-        Apart-append n k k (lays n f k ts).next j (suc j) (suc j) (record { left = result n j; body = Is h (lays n f k ts).roots } ∷ []) (lays n f k ts).equations (omega arith) le (omega arith) (omega arith)
+        Apart-append n k k (lays n f k ts).next j (suc j) (suc j) (record { left = result n j; body = Is h (lays n f k ts).roots } ∷ [])
+            (lays n f k ts).equations (omega arith) le (omega arith) (omega arith)
             (one_apart n k k j (suc j) (record { left = result n j; body = Is h (lays n f k ts).roots }) (refl, (omega arith, omega arith))) a,
       )
 
@@ -114,7 +125,8 @@ module _ (n : Node) (r : ℕ) (f : ℕ → Ref) where
         e,
         omega (arith, le, le'),
         subst (λ d. Apart n k e j d (lay_results n f k j (t ∷ ts))) z
-            (Apart-append n k (lay_result n f k j t).next e j (suc j) (suc j + length ts) (lay_result n f k j t).equations (lay_results n f (lay_result n f k j t).next (suc j) ts) le le' (omega arith) (omega arith) a b),
+            (Apart-append n k (lay_result n f k j t).next e j (suc j) (suc j + length ts) (lay_result n f k j t).equations
+            (lay_results n f (lay_result n f k j t).next (suc j) ts) le le' (omega arith) (omega arith) a b),
       )
 
 -- the equations of a choice
@@ -132,7 +144,8 @@ made-apart n ri r args bound =
     )
 
 -- and they hold behind equations that have none of the node
-pub made-holds : (k : Map) (n : Node) (ri : ℕ) (r : Rule) (args : List Ground) (bound : List Ref) → ((x : Ref) → x.node ≡ n → find k x ≡ None) → Holds (k ++ (made n ri r args bound).equations) (made n ri r args bound).equations
+pub made-holds : (k : Map) (n : Node) (ri : ℕ) (r : Rule) (args : List Ground) (bound : List Ref) → ((x : Ref) → x.node ≡ n → find k x ≡ None) →
+    Holds (k ++ (made n ri r args bound).equations) (made n ri r args bound).equations
 made-holds k n ri r args bound free =
     let (e, a) = made-apart n ri r args bound in
     let es = (made n ri r args bound).equations in

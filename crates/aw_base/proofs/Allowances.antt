@@ -1,5 +1,6 @@
 -- Allowances of symbols.
-use Rattle.std.proofs.Common.{◌≡◌, ℕ, suc, ◌+◌, ◌-◌, ◌≤◌, refl, sym, ap, ◌∙◌, Bool, true, false, ◌&&◌, cond, List, [], ◌∷◌, map, length, max, Option, Some, None, is_some, option_and_then, arith, nat_le}
+use Rattle.std.proofs.Common.{◌≡◌, ℕ, suc, ◌+◌, ◌-◌, ◌≤◌, refl, sym, ap, ◌∙◌, Bool, true, false, ◌&&◌, cond, List, [], ◌∷◌, map, length, max, Option}
+use Rattle.std.proofs.Common.{Some, None, is_some, option_and_then, arith, nat_le}
 use Rattle.std.proofs.lemmas.Bool.{lt-leb, le-leb, and_right}
 use Rattle.std.proofs.lemmas.Bool.Decides.{nat_tests}
 use Rattle.std.proofs.lemmas.List.{length-map}

@@ -1,5 +1,7 @@
 -- The name of a node is read from any of its steps on.
-use Rattle.std.proofs.Common.{◌≡◌, ℕ, zero, suc, ◌+◌, ◌-◌, ◌≤◌, ◌<◌, refl, sym, ap, subst, ◌∙◌, inl, inr, Bool, true, false, cond, ◌==◌, List, [], ◌∷◌, ◌++◌, length, take, drop, get_or, slice_get, Option, Some, None, option_map, option_and_then, count_by, arith, add-one, length-append}
+use Rattle.std.proofs.Common.{◌≡◌, ℕ, zero, suc, ◌+◌, ◌-◌, ◌≤◌, ◌<◌, refl, sym, ap, subst, ◌∙◌, inl, inr, Bool, true, false, cond, ◌==◌, List, [], ◌∷◌}
+use Rattle.std.proofs.Common.{◌++◌, length, take, drop, get_or, slice_get, Option, Some, None, option_map, option_and_then, count_by, arith, add-one}
+use Rattle.std.proofs.Common.{length-append}
 use Rattle.std.specs.List.{slice_split, onto_first}
 use Rattle.std.proofs.lemmas.List.{length-take, length-take-le, take_all, take-take, take-append-le, take-append-drop, drop-take}
 use Rattle.std.proofs.lemmas.List.Sums.{sum_by-take-le}
@@ -187,7 +189,8 @@ last_kept w g old new start case steps fronts common kept h few within same shor
     let all = take_all (length (take kept fronts) - 1) (take (kept - 1) steps) (omega (arith, many, length-take (kept - 1) steps)) in
     let last : slice_get fronts (kept - 1) ≡ Some f = ap (λ n. slice_get fronts (n - 1)) (sym many) ∙ at.0 in
     record {
-      named = subst (λ ss. IsNamed w g (take f.end new) start case ss f.sort) all ((fronts_kept w g old new start case steps fronts common kept h few within same).each (length (take kept fronts) - 1) f e);
+      named = subst (λ ss. IsNamed w g (take f.end new) start case ss f.sort) all
+          ((fronts_kept w g old new start case steps fronts common kept h few within same).each (length (take kept fronts) - 1) f e);
       all = omega (arith, many, at.1, few, h.paired, length-take (kept - 1) steps);
       within = omega (arith, short, within (kept - 1) f (omega (arith, many, at.1)) last);
     }

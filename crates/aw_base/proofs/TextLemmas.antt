@@ -9,7 +9,8 @@ pub listed_first : {A : Type 0} (f : A → List ℕ) (x : A) (xs : List A) → l
 listed_first f x [] = sym (append-nil (f x))
 listed_first f x (y ∷ ys) = ap (λ t. f x ++ t) (ap (λ t. codes ", " ++ t) (listed_first f y ys) ∙ sym (append_assoc (codes ", ") (f y) (flat_map (λ z. codes ", " ++ f z) ys)))
 
-pub listed_split : {A : Type 0} (f : A → List ℕ) (xs : List A) (x : A) (rest : List A) → 1 ≤ length xs → x ≡ get_or xs 0 x → rest ≡ drop 1 xs → f x ++ flat_map (λ y. codes ", " ++ f y) rest ≡ listed (map f xs)
+pub listed_split : {A : Type 0} (f : A → List ℕ) (xs : List A) (x : A) (rest : List A) → 1 ≤ length xs → x ≡ get_or xs 0 x → rest ≡ drop 1 xs →
+    f x ++ flat_map (λ y. codes ", " ++ f y) rest ≡ listed (map f xs)
 listed_split f [] x rest l e d = absurd (omega (arith, l))
 listed_split f (y ∷ ys) x rest l e d = ap (λ t. f x ++ flat_map (λ z. codes ", " ++ f z) t) d ∙ ap (λ t. f t ++ flat_map (λ z. codes ", " ++ f z) ys) e ∙ sym (listed_first f y ys)
 

@@ -38,7 +38,8 @@ found : {A B : Type 0} (f : A → B) (xs : List A) (i : ℕ) (d : A) → i < len
 found f xs i d less = ap (λ o. is_some (option_map f o)) (slice_get-get_or xs i d less)
 
 -- a node has a home exactly where its name is valid
-home_exact : (w : Words) (g : Grammar) (n : Node) (o : Option ℕ) → IsWellFormed w g → sort_of g n ≡ o → is_some (option_and_then (λ s. option_map (λ (t : Sort). t.role) (slice_get g.sorts s)) o) ≡ is_some o
+home_exact : (w : Words) (g : Grammar) (n : Node) (o : Option ℕ) → IsWellFormed w g → sort_of g n ≡ o →
+    is_some (option_and_then (λ s. option_map (λ (t : Sort). t.role) (slice_get g.sorts s)) o) ≡ is_some o
 home_exact w g n None formed e = refl
 home_exact w g n (Some s) formed e =
     found (λ (t : Sort). t.role) g.sorts s (record { role = 0; takes = 0; gives = 0; start = true }) (declared_sort w g n s formed e)

@@ -13,7 +13,8 @@ none_past k [] h = refl
 none_past zero (b ∷ file) h = absurd (omega (arith, h))
 none_past (suc k) (b ∷ file) h = none_past k file (omega (arith, h))
 
-headed_events : (file : List ℕ) (headed : Bool) (within : Bool) → (within ≡ false → length file ≤ first_gate file) → (headed && within) ≡ false → cond headed (events_from (first_gate file) file) [] ≡ []
+headed_events : (file : List ℕ) (headed : Bool) (within : Bool) → (within ≡ false → length file ≤ first_gate file) → (headed && within) ≡ false →
+    cond headed (events_from (first_gate file) file) [] ≡ []
 headed_events file false within past h = refl
 headed_events file true within past h = none_past (first_gate file) file (past h)
 

@@ -30,7 +30,8 @@ cell_of ns None b e = absurd cc
 cell_of ns (Some c) b e = (c, refl, e)
 
 -- each left side is named, each reference in a body too, and a body has few
-equation-named : (ns : List Ref) (o : Option Ref) (p : Option Body) (k : Map) → ((r : Ref) → o ≡ Some r → is_named ns r ≡ true) → ((b : Body) → p ≡ Some b → all_named ns (mentions b) ≡ true) → has_names ns k ≡ true → has_names ns (equation_with o p k) ≡ true
+equation-named : (ns : List Ref) (o : Option Ref) (p : Option Body) (k : Map) → ((r : Ref) → o ≡ Some r → is_named ns r ≡ true) →
+    ((b : Body) → p ≡ Some b → all_named ns (mentions b) ≡ true) → has_names ns k ≡ true → has_names ns (equation_with o p k) ≡ true
 equation-named ns None p k f g w = w
 equation-named ns (Some r) None k f g w = w
 equation-named ns (Some r) (Some b) k f g w = and_from _ _ (and_from _ _ (f r refl) (g b refl)) w
@@ -81,7 +82,8 @@ find-stands ns cs (x ∷ xs) s r o e = by (nat_eq s x) refl (find-stands ns cs x
     by : (t : Bool) → nat_eq s x ≡ t → find (map_in ns cs xs) r ≡ found (stands s xs) (body_in ns cs s) → find (map_in ns cs (x ∷ xs)) r ≡ found (t || stands s xs) (body_in ns cs s)
     by true f rest =
         let g : s ≡ x = eqb-true s x f in
-        own_slot (slice_get ns x) (body_in ns cs x) (map_in ns cs xs) r (stands s xs) (ap (slice_get ns) (sym g) ∙ e) (rest ∙ ap (λ y. found (stands s xs) (body_in ns cs y)) g) ∙ ap (body_in ns cs) (sym g)
+        own_slot (slice_get ns x) (body_in ns cs x) (map_in ns cs xs) r (stands s xs) (ap (slice_get ns) (sym g) ∙ e)
+        (rest ∙ ap (λ y. found (stands s xs) (body_in ns cs y)) g) ∙ ap (body_in ns cs) (sym g)
     by false f rest = skipped_slot (slice_get ns x) (body_in ns cs x) _ (map_in ns cs xs) r (λ h. both_ways (nat_eq s x) f (eq-eqb s x (o s x r e h))) rest
 
 pub empty_body : (ns : List Ref) (o : Option Stored) → is_full o ≡ false → option_and_then (body_from ns) o ≡ None
@@ -93,7 +95,8 @@ empty_body ns (Some c) w = by (body_from ns c) refl
     by (Some b) e = absurd (both_ways (is_written c) w (body_from-written ns c b e))
 
 -- what is found for a name is the body at its slot
-pub find-slot : (ns : List Ref) (cs : List Stored) (order : List ℕ) (s : ℕ) (r : Ref) → IsNamedOnce ns → stands s order ≡ is_full (slice_get cs s) → slice_get ns s ≡ Some r → find (map_in ns cs order) r ≡ body_in ns cs s
+pub find-slot : (ns : List Ref) (cs : List Stored) (order : List ℕ) (s : ℕ) (r : Ref) → IsNamedOnce ns → stands s order ≡ is_full (slice_get cs s) →
+    slice_get ns s ≡ Some r → find (map_in ns cs order) r ≡ body_in ns cs s
 find-slot ns cs order s r o w e = find-stands ns cs order s r o e ∙ ap (λ t. found t (body_in ns cs s)) w ∙ by (is_full (slice_get cs s)) refl
   where
     by : (t : Bool) → is_full (slice_get cs s) ≡ t → found t (body_in ns cs s) ≡ body_in ns cs s
@@ -111,7 +114,8 @@ no_equation : (o : Option Ref) (k : Map) → equation_with o None k ≡ k
 no_equation None k = refl
 no_equation (Some r) k = refl
 
-equation-grown : (ns more : List Ref) (cs : List Stored) (s : ℕ) (k : Map) → all_fit (length ns) cs ≡ true → length cs ≡ length ns → equation_with (slice_get (ns ++ more) s) (body_in (ns ++ more) (cs ++ Missing ∷ []) s) k ≡ equation_with (slice_get ns s) (body_in ns cs s) k
+equation-grown : (ns more : List Ref) (cs : List Stored) (s : ℕ) (k : Map) → all_fit (length ns) cs ≡ true → length cs ≡ length ns →
+    equation_with (slice_get (ns ++ more) s) (body_in (ns ++ more) (cs ++ Missing ∷ []) s) k ≡ equation_with (slice_get ns s) (body_in ns cs s) k
 equation-grown ns more cs s k w n = elim (cases_lt s (length ns)) [
   | inl l ↦ λ i. equation_with (slice_get-front ns more s l i) (body_in-grown ns more cs s w i) k
   | inr l ↦
@@ -150,7 +154,8 @@ equation-append None p k l = refl
 equation-append (Some r) None k l = refl
 equation-append (Some r) (Some b) k l = refl
 
-pub map-push : (ns : List Ref) (cs : List Stored) (order : List ℕ) (j : ℕ) (e : Equation) → slice_get ns j ≡ Some e.left → body_in ns cs j ≡ Some e.body → map_in ns cs (order ++ j ∷ []) ≡ map_in ns cs order ++ e ∷ []
+pub map-push : (ns : List Ref) (cs : List Stored) (order : List ℕ) (j : ℕ) (e : Equation) → slice_get ns j ≡ Some e.left →
+    body_in ns cs j ≡ Some e.body → map_in ns cs (order ++ j ∷ []) ≡ map_in ns cs order ++ e ∷ []
 map-push ns cs [] j e f g = λ i. equation_with (f i) (g i) []
 map-push ns cs (s ∷ ss) j e f g = ap (equation_with (slice_get ns s) (body_in ns cs s)) (map-push ns cs ss j e f g) ∙ equation-append _ _ (map_in ns cs ss) (e ∷ [])
 
@@ -158,7 +163,8 @@ map-push ns cs (s ∷ ss) j e f g = ap (equation_with (slice_get ns s) (body_in 
 one-equation : (o : Option Ref) (p : Option Body) (k : Map) → (r : Ref) × (o ≡ Some r) → (b : Body) × (p ≡ Some b) → length (equation_with o p k) ≡ suc (length k)
 one-equation o p k (r, e) (b, f) = λ i. length (equation_with (e i) (f i) k)
 
-pub map-length : (ns : List Ref) (cs : List Stored) (order : List ℕ) → all_fit (length ns) cs ≡ true → length cs ≡ length ns → ((s : ℕ) → stands s order ≡ true → is_full (slice_get cs s) ≡ true) → length (map_in ns cs order) ≡ length order
+pub map-length : (ns : List Ref) (cs : List Stored) (order : List ℕ) → all_fit (length ns) cs ≡ true → length cs ≡ length ns →
+    ((s : ℕ) → stands s order ≡ true → is_full (slice_get cs s) ≡ true) → length (map_in ns cs order) ≡ length order
 map-length ns cs [] w n f = refl
 map-length ns cs (s ∷ ss) w n f =
     let full : is_full (slice_get cs s) ≡ true = f s (ap (λ t. t || stands s ss) (eq-eqb s s refl)) in

@@ -22,16 +22,19 @@ use Rattle.aw_cells.proofs.BodyLemmas.{kind_is, child_is, parts_are, text_is, bo
 use Rattle.aw_cells.proofs.MapLemmas.{find-slot, empty_body}
 use Rattle.aw_cells.proofs.SoundLemmas.{body_at-cell, slot_fits}
 
-pub kind_at : (ns : List Ref) (cs : List Stored) (order : List ℕ) (s : ℕ) (c : Stored) (k : Kind) → IsSound ns cs order → slice_get cs s ≡ Some c → k ≡ kind_from c → IsKindOf ns (body_at (map_in ns cs order) ns s) k
+pub kind_at : (ns : List Ref) (cs : List Stored) (order : List ℕ) (s : ℕ) (c : Stored) (k : Kind) → IsSound ns cs order → slice_get cs s ≡ Some c →
+    k ≡ kind_from c → IsKindOf ns (body_at (map_in ns cs order) ns s) k
 kind_at ns cs order s c k w e f =
     subst (λ x. IsKindOf ns (body_at (map_in ns cs order) ns s) x) (sym f)
     (subst (λ b. IsKindOf ns b (kind_from c)) (sym (body_at-cell ns cs order s c w e)) (kind_is ns c (slot_fits ns cs order s c w e)))
 
-pub child_within : (ns : List Ref) (cs : List Stored) (order : List ℕ) (s k : ℕ) (c : Stored) → IsSound ns cs order → slice_get cs s ≡ Some c → k < length (parts_at (map_in ns cs order) ns s) → k < length (slots_of c)
+pub child_within : (ns : List Ref) (cs : List Stored) (order : List ℕ) (s k : ℕ) (c : Stored) → IsSound ns cs order → slice_get cs s ≡ Some c →
+    k < length (parts_at (map_in ns cs order) ns s) → k < length (slots_of c)
 child_within ns cs order s k c w e l =
     omega (arith, l, ap (λ b. length (con_parts b)) (body_at-cell ns cs order s c w e), parts_are ns c (slot_fits ns cs order s c w e))
 
-pub child_at : (ns : List Ref) (cs : List Stored) (order : List ℕ) (s k x : ℕ) (c : Stored) → IsSound ns cs order → slice_get cs s ≡ Some c → slice_get (slots_of c) k ≡ Some x → slice_get ns x ≡ slice_get (parts_at (map_in ns cs order) ns s) k
+pub child_at : (ns : List Ref) (cs : List Stored) (order : List ℕ) (s k x : ℕ) (c : Stored) → IsSound ns cs order → slice_get cs s ≡ Some c →
+    slice_get (slots_of c) k ≡ Some x → slice_get ns x ≡ slice_get (parts_at (map_in ns cs order) ns s) k
 child_at ns cs order s k x c w e f =
     child_is ns c k x (slot_fits ns cs order s c w e) f ∙ ap (λ b. slice_get (con_parts b) k) (sym (body_at-cell ns cs order s c w e))
 
@@ -46,10 +49,12 @@ live_text k ns s = by (slice_get ns s) refl
     by None e w = absurd cc
     by (Some r) e w = slice_get_within ns s r e
 
-pub no_body : (ns : List Ref) (cs : List Stored) (order : List ℕ) (s : ℕ) (r : Ref) (c : Stored) → IsSound ns cs order → slice_get ns s ≡ Some r → slice_get cs s ≡ Some c → is_written c ≡ false → find (map_in ns cs order) r ≡ None
+pub no_body : (ns : List Ref) (cs : List Stored) (order : List ℕ) (s : ℕ) (r : Ref) (c : Stored) → IsSound ns cs order → slice_get ns s ≡ Some r →
+    slice_get cs s ≡ Some c → is_written c ≡ false → find (map_in ns cs order) r ≡ None
 no_body ns cs order s r c w e f g = find-slot ns cs order s r w.once (w.ordered s) e ∙ empty_body ns (slice_get cs s) (ap is_full f ∙ g)
 
-pub body_found : (ns : List Ref) (cs : List Stored) (order : List ℕ) (s : ℕ) (r : Ref) (c : Stored) → IsSound ns cs order → slice_get ns s ≡ Some r → slice_get cs s ≡ Some c → find (map_in ns cs order) r ≡ body_from ns c
+pub body_found : (ns : List Ref) (cs : List Stored) (order : List ℕ) (s : ℕ) (r : Ref) (c : Stored) → IsSound ns cs order → slice_get ns s ≡ Some r →
+    slice_get cs s ≡ Some c → find (map_in ns cs order) r ≡ body_from ns c
 body_found ns cs order s r c w e f = find-slot ns cs order s r w.once (w.ordered s) e ∙ ap (option_and_then (body_from ns)) f
 
 -- what one body beside another comes to is what adding comes to
@@ -71,6 +76,7 @@ addable ns k e c w v f a = elim a [
 ]
 
 -- where the names of all of them are there, those of each are
-pub each_named : {T E : Type 0} (r : Result T E) (ns : List Ref) (es seen : List Equation) → seen ≡ es → OnOk r (has_names ns (map equation_of seen) ≡ true) → OnOk r ((e : P.Equation) → Contains (map equation_of es) e → has_names_of ns e ≡ true)
+pub each_named : {T E : Type 0} (r : Result T E) (ns : List Ref) (es seen : List Equation) → seen ≡ es →
+    OnOk r (has_names ns (map equation_of seen) ≡ true) → OnOk r ((e : P.Equation) → Contains (map equation_of es) e → has_names_of ns e ≡ true)
 each_named (Ok x) ns es seen f w = λ e m. has_names-member ns (map equation_of es) e m (ap (λ x. has_names ns (map equation_of x)) (sym f) ∙ w)
 each_named (Err x) ns es seen f w = w

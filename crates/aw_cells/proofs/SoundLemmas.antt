@@ -91,7 +91,8 @@ stands-push (x ∷ xs) s j = ap (λ t. nat_eq s x || t) (stands-push xs s j) ∙
     swap false true c = refl
     swap false false c = refl
 
-ordered-set : (cs : List Stored) (order : List ℕ) (j : ℕ) (c : Stored) (s : ℕ) → j < length cs → is_written c ≡ true → stands s order ≡ is_full (slice_get cs s) → stands s (order ++ j ∷ []) ≡ is_full (slice_get (slice_set cs j c) s)
+ordered-set : (cs : List Stored) (order : List ℕ) (j : ℕ) (c : Stored) (s : ℕ) → j < length cs → is_written c ≡ true → stands s order ≡ is_full
+    (slice_get cs s) → stands s (order ++ j ∷ []) ≡ is_full (slice_get (slice_set cs j c) s)
 ordered-set cs order j c s l w e = elim (cases_eq s j) [
   | inl f ↦
       stands-push order s j ∙ ap (λ t. t || stands s order) (eq-eqb s j f)
@@ -99,7 +100,8 @@ ordered-set cs order j c s l w e = elim (cases_eq s j) [
   | inr f ↦ stands-push order s j ∙ ap (λ t. t || stands s order) (ne_eqb s j f) ∙ e ∙ ap is_full (sym (slice_get-others cs j s c f))
 ]
 
-pub sound-written : (ns : List Ref) (cs : List Stored) (order : List ℕ) (j : ℕ) (c : Stored) → IsSound ns cs order → j < length cs → is_full (slice_get cs j) ≡ false → fits (length ns) c ≡ true → is_written c ≡ true → IsSound ns (slice_set cs j c) (order ++ j ∷ [])
+pub sound-written : (ns : List Ref) (cs : List Stored) (order : List ℕ) (j : ℕ) (c : Stored) → IsSound ns cs order → j < length cs →
+    is_full (slice_get cs j) ≡ false → fits (length ns) c ≡ true → is_written c ≡ true → IsSound ns (slice_set cs j c) (order ++ j ∷ [])
 sound-written ns cs order j c s l f w v =
     record {
       once = s.once;
@@ -132,7 +134,8 @@ pub sound-same : (ns ms : List Ref) (cs ds : List Stored) (os ps : List ℕ) →
 sound-same ns ms cs ds os ps e f g w = subst (λ x. IsSound x ds ps) (sym e) (subst (λ x. IsSound ns x ps) (sym f) (subst (λ x. IsSound ns cs x) (sym g) w))
 
 -- a name that has no equation has no body at its slot
-pub empty_slot : (ns : List Ref) (cs : List Stored) (order : List ℕ) (s : ℕ) (r : Ref) → IsSound ns cs order → slice_get ns s ≡ Some r → find (map_in ns cs order) r ≡ None → is_full (slice_get cs s) ≡ false
+pub empty_slot : (ns : List Ref) (cs : List Stored) (order : List ℕ) (s : ℕ) (r : Ref) → IsSound ns cs order → slice_get ns s ≡ Some r →
+    find (map_in ns cs order) r ≡ None → is_full (slice_get cs s) ≡ false
 empty_slot ns cs order s r w e f = by (slice_get cs s) refl (sym (find-slot ns cs order s r w.once (w.ordered s) e) ∙ f)
   where
     by : (o : Option Stored) → slice_get cs s ≡ o → option_and_then (body_from ns) o ≡ None → is_full o ≡ false

@@ -42,12 +42,14 @@ one-found offers declared g role (Excess a) (Circle b) x y = never (fault-none g
 one-found offers declared g role (Excess a) (Excess b) x y = ap Excess (one-pair a b (x.1.1 b y.1.0) (y.1.1 a x.1.0))
 
 -- and so do all
-one-findings : (offers : List ℕ) (declared : List Triple) (g : Grammar) (role : ℕ) (xs ys : List Finding) → length xs ≡ length ys → AreFindings offers declared g role xs → AreFindings offers declared g role ys → xs ≡ ys
+one-findings : (offers : List ℕ) (declared : List Triple) (g : Grammar) (role : ℕ) (xs ys : List Finding) → length xs ≡ length ys →
+    AreFindings offers declared g role xs → AreFindings offers declared g role ys → xs ≡ ys
 one-findings offers declared g role [] [] len x y = refl
 one-findings offers declared g role [] (b ∷ bs) len x y = absurd (omega (arith, len))
 one-findings offers declared g role (a ∷ as') [] len x y = absurd (omega (arith, len))
 one-findings offers declared g role (a ∷ as') (b ∷ bs) len x y =
-    ap (λ (f : Finding). f ∷ as') (one-found offers declared (part_at g role) role a b x.0 y.0) ∙ ap (λ (fs : List Finding). b ∷ fs) (one-findings offers declared g (suc role) as' bs (omega (arith, len)) x.1 y.1)
+    ap (λ (f : Finding). f ∷ as') (one-found offers declared (part_at g role) role a b x.0 y.0) ∙ ap (λ (fs : List Finding). b ∷ fs)
+    (one-findings offers declared g (suc role) as' bs (omega (arith, len)) x.1 y.1)
 
 pub one-roles : RolesAreToldOnce
 one-roles offers declared w g a b (xs, len, are, told) (ys, len', are', told') =

@@ -32,7 +32,8 @@ pair-test io s i j = (
 )
 
 -- the text of a relation that is that of the grammar tells it
-pub tells : {E : Type 0} (result : Result (List ℕ) E) (g : Grammar) (io : Io) (h : Grammar) (jo : Io) → IsRelation g io → h ≡ g → jo ≡ io → IfOk result (λ text. text ≡ accepted_text (has_pair jo) (words_of h) (grammar_of h)) → IfOk result (λ text. TellsAccepted (words_of g) (grammar_of g) text)
+pub tells : {E : Type 0} (result : Result (List ℕ) E) (g : Grammar) (io : Io) (h : Grammar) (jo : Io) → IsRelation g io → h ≡ g → jo ≡ io →
+    IfOk result (λ text. text ≡ accepted_text (has_pair jo) (words_of h) (grammar_of h)) → IfOk result (λ text. TellsAccepted (words_of g) (grammar_of g) text)
 tells (Ok text) g io h jo same is is_io e = (
   has_pair io,
   (λ s i j. ((λ test. (same s i j).0 ((pair-test io s i j).0 test)), (λ walk. (pair-test io s i j).1 ((same s i j).1 walk)))),
@@ -41,6 +42,8 @@ tells (Ok text) g io h jo same is is_io e = (
 tells (Err error) g io h jo same is is_io e = tt
 
 -- and where it is known to be so, that much is known of the text
-pub tells_some : {E : Type 0} (result : Result (List ℕ) E) (g : Grammar) (io : Io) (h : Grammar) (jo : Io) → ∥ IsRelation g io ∥₁ → h ≡ g → jo ≡ io → IfOk result (λ text. text ≡ accepted_text (has_pair jo) (words_of h) (grammar_of h)) → IfOk result (λ text. ∥ TellsAccepted (words_of g) (grammar_of g) text ∥₁)
+pub tells_some : {E : Type 0} (result : Result (List ℕ) E) (g : Grammar) (io : Io) (h : Grammar) (jo : Io) → ∥ IsRelation g io ∥₁ → h ≡ g → jo ≡ io →
+    IfOk result (λ text. text ≡ accepted_text (has_pair jo) (words_of h) (grammar_of h)) →
+    IfOk result (λ text. ∥ TellsAccepted (words_of g) (grammar_of g) text ∥₁)
 tells_some {E} (Ok text) g io h jo same is is_io e = ∥∥₁_map same (λ known. tells {E = E} (Ok text) g io h jo known is is_io e)
 tells_some (Err error) g io h jo same is is_io e = tt

@@ -6,7 +6,8 @@ use Rattle.aw_term.proofs.Eaches.{each_push}
 use Rattle.aw_term.specs.WellFormed.{Each}
 
 -- one more of a list
-pub one_more : {A : Type 0} (spelled : A → List ℕ) (xs : List A) (i : ℕ) (x : A) (old text new : List ℕ) → i < length xs → x ≡ get_or xs i x → text ≡ old ++ flat_map spelled (take i xs) → new ≡ text ++ spelled x
+pub one_more : {A : Type 0} (spelled : A → List ℕ) (xs : List A) (i : ℕ) (x : A) (old text new : List ℕ) → i < length xs → x ≡ get_or xs i x →
+    text ≡ old ++ flat_map spelled (take i xs) → new ≡ text ++ spelled x
     → new ≡ old ++ flat_map spelled (take (i + 1) xs)
 one_more spelled xs i x old text new lt is so_far e =
     e ∙ ap (λ t. t ++ spelled x) so_far ∙ flat_map_more spelled old (take i xs) x
@@ -32,6 +33,7 @@ each_more P xs i x lt is each here =
     subst (Each P) (sym (take_more xs i x lt ∙ ap (λ y. take i xs ++ y ∷ []) (sym is))) (each_push P (take i xs) x each here)
 
 -- the same of what a view shows of them
-pub each_more_seen : {A B : Type 0} (P : B → Type 0) (view : A → B) (xs : List A) (i : ℕ) (x : A) → i < length xs → x ≡ get_or xs i x → Each P (map view (take i xs)) → P (view x) → Each P (map view (take (i + 1) xs))
+pub each_more_seen : {A B : Type 0} (P : B → Type 0) (view : A → B) (xs : List A) (i : ℕ) (x : A) → i < length xs → x ≡ get_or xs i x →
+    Each P (map view (take i xs)) → P (view x) → Each P (map view (take (i + 1) xs))
 each_more_seen P view xs i x lt is each here =
     subst (Each P) (sym (ap (map view) (take_more xs i x lt ∙ ap (λ y. take i xs ++ y ∷ []) (sym is)) ∙ map-append view (take i xs) (x ∷ []))) (each_push P (map view (take i xs)) (view x) each here)

@@ -10,7 +10,8 @@ nothing_behind : (a b : List ℕ) → a ++ b ≡ [] → b ≡ []
 nothing_behind [] b e = e
 nothing_behind (x ∷ a) b e = absurd cc
 
-by_read : {A : Type 0} {read : Reader A} (h : Extends read) (x : A) (bytes more : List ℕ) → read (bytes ++ more) ≡ Ok (x, []) → more ≢ [] → (answer : Result (A × List ℕ) Fault) → read bytes ≡ answer → read bytes ≡ Err Short
+by_read : {A : Type 0} {read : Reader A} (h : Extends read) (x : A) (bytes more : List ℕ) → read (bytes ++ more) ≡ Ok (x, []) → more ≢ [] →
+    (answer : Result (A × List ℕ) Fault) → read bytes ≡ answer → read bytes ≡ Err Short
 by_read {A} h x bytes more whole some (Ok y) e =
     absurd (some (nothing_behind y.1 more (ap (λ (p : A × List ℕ). p.1) (ok_is (y.0, y.1 ++ more) (x, []) (sym (h.ok bytes y.0 y.1 more e) ∙ whole)))))
 by_read h x bytes more whole some (Err Short) e = e

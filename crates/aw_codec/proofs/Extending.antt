@@ -72,13 +72,15 @@ rule_bad : {A : Type 0} (b : Bool) (x : A × List ℕ) (d : Fault) (left : ℕ) 
 rule_bad true x d left e = absurd cc
 rule_bad false x d left e = refl
 
-such_that_ok : {A : Type 0} {r : Reader A} (rule : A → Bool) (h : Extends r) (bytes : List ℕ) (x : A) (rest more : List ℕ) → such_that rule r bytes ≡ Ok (x, rest) → such_that rule r (bytes ++ more) ≡ Ok (x, rest ++ more)
+such_that_ok : {A : Type 0} {r : Reader A} (rule : A → Bool) (h : Extends r) (bytes : List ℕ) (x : A) (rest more : List ℕ) →
+    such_that rule r bytes ≡ Ok (x, rest) → such_that rule r (bytes ++ more) ≡ Ok (x, rest ++ more)
 such_that_ok {A} {r} rule h bytes x rest more e =
     let a = bind_ok (r bytes) (λ y. cond (rule y.0) (Ok y) (Err (Bad (length bytes)))) (x, rest) e in
     let g = rule_ok (rule a.0.0) (Bad (length bytes)) a.0 (x, rest) a.2 in
     rw (h.ok bytes a.0.0 a.0.1 more a.1, g.0) (ap (λ (p : A × List ℕ). Ok (p.0, p.1 ++ more)) g.1)
 
-such_that_bad : {A : Type 0} {r : Reader A} (rule : A → Bool) (h : Extends r) (bytes more : List ℕ) (left : ℕ) → such_that rule r bytes ≡ Err (Bad left) → (k : ℕ) × (such_that rule r (bytes ++ more) ≡ Err (Bad k))
+such_that_bad : {A : Type 0} {r : Reader A} (rule : A → Bool) (h : Extends r) (bytes more : List ℕ) (left : ℕ) → such_that rule r bytes ≡ Err
+    (Bad left) → (k : ℕ) × (such_that rule r (bytes ++ more) ≡ Err (Bad k))
 such_that_bad {A} {r} rule h bytes more left e =
     elim (bind_bad (r bytes) (λ y. cond (rule y.0) (Ok y) (Err (Bad (length bytes)))) left e) [
       | inl f ↦ let k = h.bad bytes more left f in (k.0, ap (λ z. z >>= λ y. cond (rule y.0) (Ok y) (Err (Bad (length (bytes ++ more))))) k.1)
@@ -97,19 +99,22 @@ such_that_extends rule h = record { ok = such_that_ok rule h; bad = such_that_ba
 abbrev pub next : {A B : Type 0} → Reader A → (A → Reader B) → Reader B
 next first second bytes = first bytes >>= λ x. second x.0 x.1
 
-next_ok : {A B : Type 0} {r : Reader A} {s : A → Reader B} (h : Extends r) (k : (x : A) → Extends (s x)) (bytes : List ℕ) (x : B) (rest more : List ℕ) → next r s bytes ≡ Ok (x, rest) → next r s (bytes ++ more) ≡ Ok (x, rest ++ more)
+next_ok : {A B : Type 0} {r : Reader A} {s : A → Reader B} (h : Extends r) (k : (x : A) → Extends (s x)) (bytes : List ℕ) (x : B)
+    (rest more : List ℕ) → next r s bytes ≡ Ok (x, rest) → next r s (bytes ++ more) ≡ Ok (x, rest ++ more)
 next_ok {A} {B} {r} {s} h k bytes x rest more e =
     let a = bind_ok (r bytes) (λ y. s y.0 y.1) (x, rest) e in
     ap (λ z. z >>= λ y. s y.0 y.1) (h.ok bytes a.0.0 a.0.1 more a.1) ∙ (k a.0.0).ok a.0.1 x rest more a.2
 
-next_bad : {A B : Type 0} {r : Reader A} {s : A → Reader B} (h : Extends r) (k : (x : A) → Extends (s x)) (bytes more : List ℕ) (left : ℕ) → next r s bytes ≡ Err (Bad left) → (n : ℕ) × (next r s (bytes ++ more) ≡ Err (Bad n))
+next_bad : {A B : Type 0} {r : Reader A} {s : A → Reader B} (h : Extends r) (k : (x : A) → Extends (s x)) (bytes more : List ℕ) (left : ℕ) →
+    next r s bytes ≡ Err (Bad left) → (n : ℕ) × (next r s (bytes ++ more) ≡ Err (Bad n))
 next_bad {A} {B} {r} {s} h k bytes more left e =
     elim (bind_bad (r bytes) (λ y. s y.0 y.1) left e) [
       | inl f ↦ let n = h.bad bytes more left f in (n.0, ap (λ z. z >>= λ y. s y.0 y.1) n.1)
       | inr t ↦ let n = (k t.0.0).bad t.0.1 more left t.2 in (n.0, ap (λ z. z >>= λ y. s y.0 y.1) (h.ok bytes t.0.0 t.0.1 more t.1) ∙ n.1)
     ]
 
-next_shorter : {A B : Type 0} {r : Reader A} {s : A → Reader B} (h : Extends r) (k : (x : A) → Extends (s x)) (bytes : List ℕ) (x : B) (rest : List ℕ) → next r s bytes ≡ Ok (x, rest) → length rest ≤ length bytes
+next_shorter : {A B : Type 0} {r : Reader A} {s : A → Reader B} (h : Extends r) (k : (x : A) → Extends (s x)) (bytes : List ℕ) (x : B)
+    (rest : List ℕ) → next r s bytes ≡ Ok (x, rest) → length rest ≤ length bytes
 next_shorter {A} {B} {r} {s} h k bytes x rest e =
     let a = bind_ok (r bytes) (λ y. s y.0 y.1) (x, rest) e in
     let one = h.shorter bytes a.0.0 a.0.1 a.1 in

@@ -48,7 +48,8 @@ text_law = restated spelled_text TextSized TextInRange (λ t. ap (λ (u : List �
 abbrev HeadTakes : List ℕ → List ℕ → Head × ℕ → Type 0
 HeadTakes bytes rest x = Takes bytes (spelled_head x.0 x.1) rest × HeadSized x.0 × HeadInRange x.0 x.1
 
-con_law : Law (both (number w16) (such_that (is_at_most most_parts) byte)) (λ x. to_be_bytes w16 x.0 ++ x.1 ∷ []) (λ x. (x.0 < 2 ^ 16) × (x.1 < 2 ^ 8)) (λ x. Unit {0} × (Unit {0} × (is_at_most most_parts x.1 ≡ true)))
+con_law : Law (both (number w16) (such_that (is_at_most most_parts) byte)) (λ x. to_be_bytes w16 x.0 ++ x.1 ∷ []) (λ x. (x.0 < 2 ^ 16)
+    × (x.1 < 2 ^ 8)) (λ x. Unit {0} × (Unit {0} × (is_at_most most_parts x.1 ≡ true)))
 con_law = both_law number16 (such_that_law (is_at_most most_parts) byte_law)
 
 head_taken : (bytes : List ℕ) (x : Head × ℕ) (rest : List ℕ) → AreBytes bytes → head bytes ≡ Ok (x, rest) → HeadTakes bytes rest x
@@ -90,7 +91,8 @@ record TurnTakes (levels n allowed : ℕ) (bytes : List ℕ) (ts : List Ground) 
 abbrev ItemTakes : ℕ → Type 0
 ItemTakes levels = (allowed : ℕ) (bytes : List ℕ) (x : Ground × ℕ) (rest : List ℕ) → AreBytes bytes → ground levels allowed bytes ≡ Ok (x, rest) → GroundTakes levels allowed bytes x.0 x.1 rest
 
-turn_taken : (levels : ℕ) → ItemTakes levels → (n allowed : ℕ) (bytes : List ℕ) (xs : List Ground × ℕ) (rest : List ℕ) → AreBytes bytes → in_turn (ground levels) n allowed bytes ≡ Ok (xs, rest) → TurnTakes levels n allowed bytes xs.0 xs.1 rest
+turn_taken : (levels : ℕ) → ItemTakes levels → (n allowed : ℕ) (bytes : List ℕ) (xs : List Ground × ℕ) (rest : List ℕ) → AreBytes bytes →
+    in_turn (ground levels) n allowed bytes ≡ Ok (xs, rest) → TurnTakes levels n allowed bytes xs.0 xs.1 rest
 turn_taken levels item zero allowed bytes xs rest fits e =
     subst (λ (y : (List Ground × ℕ) × List ℕ). TurnTakes levels 0 allowed bytes y.0.0 y.0.1 y.1) (ok_is (([], allowed), bytes) (xs, rest) e)
     (record { text = record { parts = refl; rest_bytes = fits }; many = refl; sized = tt; range = tt; uses = omega arith })
@@ -101,7 +103,13 @@ turn_taken levels item (suc n) allowed bytes xs rest fits e =
     let second = turn_taken levels item n a.0.0.1 a.0.1 b.0.0 b.0.1 first.text.rest_bytes b.1 in
     let joined = Takes-then bytes (spelled_ground a.0.0.0) a.0.1 (flat_map spelled_ground b.0.0.0) b.0.1 first.text second.text in
     subst (λ (y : (List Ground × ℕ) × List ℕ). TurnTakes levels (suc n) allowed bytes y.0.0 y.0.1 y.1) (ok_is ((a.0.0.0 ∷ b.0.0.0, b.0.0.1), b.0.1) (xs, rest) b.2)
-    (record { text = rw flat_map-cons joined; many = ap suc second.many; sized = (first.sized, second.sized); range = (first.range, second.range); uses = adds (symbols a.0.0.0) (symbols_of b.0.0.0) b.0.0.1 a.0.0.1 allowed first.uses second.uses })
+    (record {
+      text = rw flat_map-cons joined;
+      many = ap suc second.many;
+      sized = (first.sized, second.sized);
+      range = (first.range, second.range);
+      uses = adds (symbols a.0.0.0) (symbols_of b.0.0.0) b.0.0.1 a.0.0.1 allowed first.uses second.uses;
+    })
   where
     adds : (a b left middle allowed : ℕ) → a + middle ≡ allowed → b + left ≡ middle → (a + b) + left ≡ allowed
     adds a b left middle allowed e f = omega arith
@@ -126,11 +134,13 @@ nesting_join : (levels : ℕ) (ts : List Ground) → Each (GroundInRange levels)
 nesting_join levels [] h = omega arith
 nesting_join levels (t ∷ ts) h = max_below (nesting t) (all_nesting (join ts)) levels h.0.1 (nesting_join levels ts h.1)
 
-made_taken : (levels allowed : ℕ) (bytes : List ℕ) (h : Head) (ts : List Ground) (left : ℕ) (behind rest : List ℕ) → Takes bytes (spelled_head h (length ts)) behind → HeadSized h → HeadInRange h (length ts)
+made_taken : (levels allowed : ℕ) (bytes : List ℕ) (h : Head) (ts : List Ground) (left : ℕ) (behind rest : List ℕ) →
+    Takes bytes (spelled_head h (length ts)) behind → HeadSized h → HeadInRange h (length ts)
     → TurnTakes levels (length ts) allowed behind ts left rest → GroundTakes (suc levels) (suc allowed) bytes (Made h (join ts)) left rest
 made_taken levels allowed bytes h ts left behind rest front sized range turn =
     record {
-      text = subst (λ (u : List ℕ). Takes bytes u rest) (ap (λ n. spelled_head h n ++ flat_map spelled_ground ts) (sym (count_join ts)) ∙ ap (λ (u : List ℕ). spelled_head h (count (join ts)) ++ u) (sym (parts_join ts)))
+      text = subst (λ (u : List ℕ). Takes bytes u rest) (ap (λ n. spelled_head h n ++ flat_map spelled_ground ts) (sym (count_join ts))
+          ∙ ap (λ (u : List ℕ). spelled_head h (count (join ts)) ++ u) (sym (parts_join ts)))
           (Takes-then bytes (spelled_head h (length ts)) behind (flat_map spelled_ground ts) rest front turn.text);
       sized = (sized, sized_join ts turn.sized);
       range = ((subst (HeadInRange h) (sym (count_join ts)) range, range_join levels ts turn.range), deeper (all_nesting (join ts)) levels (nesting_join levels ts turn.range));
@@ -196,14 +206,16 @@ splits a b left allowed h = omega arith
 none_left : (allowed left : ℕ) (rest : List ℕ) → allowed ≡ 0 + left → in_turn {A = Ground} (ground 0) 0 allowed rest ≡ Ok (([], left), rest)
 none_left allowed left rest uses = let e : allowed ≡ left = omega arith in ap (λ n. Ok (([], n), rest)) e
 
-one_again : (t : Ground) (ts : Trees Never) (levels allowed left : ℕ) (rest : List ℕ) → ground levels allowed (spelled_ground t ++ (spelled_parts ts ++ rest)) ≡ Ok ((t, all_symbols ts + left), spelled_parts ts ++ rest)
+one_again : (t : Ground) (ts : Trees Never) (levels allowed left : ℕ) (rest : List ℕ) → ground levels allowed
+    (spelled_ground t ++ (spelled_parts ts ++ rest)) ≡ Ok ((t, all_symbols ts + left), spelled_parts ts ++ rest)
     → in_turn (ground levels) (count ts) (all_symbols ts + left) (spelled_parts ts ++ rest) ≡ Ok ((list_of ts, left), rest)
     → in_turn (ground levels) (suc (count ts)) allowed ((spelled_ground t ++ spelled_parts ts) ++ rest) ≡ Ok ((t ∷ list_of ts, left), rest)
 one_again t ts levels allowed left rest first others =
     ap (in_turn (ground levels) (suc (count ts)) allowed) (append_assoc (spelled_ground t) (spelled_parts ts) rest) ∙ rw (first, others) refl
 
 mutual
-  ground_again : (t : Ground) (levels allowed left : ℕ) (rest : List ℕ) → GroundSized t → HeadsInRange t → nesting t ≤ levels → allowed ≡ symbols t + left → ground levels allowed (spelled_ground t ++ rest) ≡ Ok ((t, left), rest)
+  ground_again : (t : Ground) (levels allowed left : ℕ) (rest : List ℕ) → GroundSized t → HeadsInRange t → nesting t ≤ levels →
+      allowed ≡ symbols t + left → ground levels allowed (spelled_ground t ++ rest) ≡ Ok ((t, left), rest)
   ground_again (Leaf x) levels allowed left rest sized range deep uses = elim x [ ]
   ground_again (Made h ts) levels allowed left rest sized range deep uses =
       made_again h ts levels allowed left rest sized.0 range.0 deep uses
@@ -214,7 +226,8 @@ mutual
   parts_again Nil levels allowed left rest sized range deep uses = none_left allowed left rest uses
   parts_again (More t ts) levels allowed left rest sized range deep uses =
       one_again t ts levels allowed left rest
-      (ground_again t levels allowed (all_symbols ts + left) (spelled_parts ts ++ rest) sized.0 range.0 (left_fits (nesting t) (all_nesting ts) levels deep) (splits (symbols t) (all_symbols ts) left allowed uses))
+      (ground_again t levels allowed (all_symbols ts + left) (spelled_parts ts ++ rest) sized.0 range.0 (left_fits (nesting t) (all_nesting ts) levels
+      deep) (splits (symbols t) (all_symbols ts) left allowed uses))
       (parts_again ts levels (all_symbols ts + left) left rest sized.1 range.1 (right_fits (nesting t) (all_nesting ts) levels deep) refl)
 
 turn_again : (ts : List Ground) (levels allowed left : ℕ) (rest : List ℕ) → Each GroundSized ts → Each (GroundInRange levels) ts → allowed ≡ symbols_of ts + left

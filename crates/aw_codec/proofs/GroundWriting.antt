@@ -23,7 +23,8 @@ parts_each [] h = tt
 parts_each (t ∷ ts) h = (h.0, parts_each ts h.1)
 
 -- a constructor behind a text: its tag, its number, how many parts it has, and the parts
-pub con_added : {A E : Type 0} (r : Result A E) (g : grounds.Ground) (c : ℕ) (parts qs : List grounds.Ground) (n k : ℕ) (old t1 t2 t3 new : List ℕ) → g ≡ grounds.Con c parts → qs ≡ parts → n ≡ length parts → (n ≤ 8 → k ≡ n)
+pub con_added : {A E : Type 0} (r : Result A E) (g : grounds.Ground) (c : ℕ) (parts qs : List grounds.Ground) (n k : ℕ) (old t1 t2 t3 new : List ℕ) →
+    g ≡ grounds.Con c parts → qs ≡ parts → n ≡ length parts → (n ≤ 8 → k ≡ n)
     → t1 ≡ old ++ 1 ∷ [] → t2 ≡ t1 ++ to_be_bytes w16 c → t3 ≡ t2 ++ k ∷ []
     → (Each HeadsInRange (map ground_of qs) → OnOk r (new ≡ t3 ++ flat_map spelled_ground (map ground_of qs)))
     → HeadsInRange (ground_of g) → OnOk r (new ≡ old ++ spelled_ground (ground_of g))

@@ -1,5 +1,6 @@
 -- A reader and a spelling that belong together: what is read is spelled so, and what is spelled so is read, whatever follows.
-use Rattle.std.proofs.Common.{◌≡◌, ℕ, zero, suc, ◌+◌, ◌^◌, ◌<◌, ◌≤◌, Bool, true, false, cond, ltb, List, [], ◌∷◌, ◌++◌, length, take, drop, Result, Ok, Err, refl, sym, ap, subst, ◌∙◌, append_assoc, arith, inl, inr}
+use Rattle.std.proofs.Common.{◌≡◌, ℕ, zero, suc, ◌+◌, ◌^◌, ◌<◌, ◌≤◌, Bool, true, false, cond, ltb, List, [], ◌∷◌, ◌++◌, length, take, drop, Result, Ok}
+use Rattle.std.proofs.Common.{Err, refl, sym, ap, subst, ◌∙◌, append_assoc, arith, inl, inr}
 use Rattle.std.specs.List.{flat_map}
 use Rattle.std.specs.Int.{Width, w16, w32, w64, byte_len, from_be_bytes, to_be_bytes}
 use Rattle.std.proofs.lemmas.Bool.{cases_lt, ltb-false, le-ltb}
@@ -67,7 +68,8 @@ pub record Law {A : Type 0} (read : Reader A) (spelled : A → List ℕ) (Sized 
 byte_taken : (bytes : List ℕ) (x : ℕ) (rest : List ℕ) → AreBytes bytes → byte bytes ≡ Ok (x, rest) → Takes bytes (x ∷ []) rest × (x < 2 ^ 8) × Unit {0}
 byte_taken [] x rest fits e = absurd cc
 byte_taken (b ∷ bs) x rest fits e =
-    subst (λ (y : ℕ × List ℕ). Takes (b ∷ bs) (y.0 ∷ []) y.1 × (y.0 < 2 ^ 8) × Unit {0}) (ok_is (b, bs) (x, rest) e) (record { parts = refl; rest_bytes = AreBytes-rest b bs fits }, omega (arith, fits 0), tt)
+    subst (λ (y : ℕ × List ℕ). Takes (b ∷ bs) (y.0 ∷ []) y.1 × (y.0 < 2 ^ 8) × Unit {0}) (ok_is (b, bs) (x, rest) e)
+    (record { parts = refl; rest_bytes = AreBytes-rest b bs fits }, omega (arith, fits 0), tt)
 
 pub byte_law : Law byte (λ b. b ∷ []) (λ b. b < 2 ^ 8) (λ b. Unit {0})
 byte_law = record { taken = byte_taken; again = λ x rest sized range. refl }
@@ -102,13 +104,15 @@ wide64 = record {
   below = λ bytes fits. omega (arith, fits 0, fits 1, fits 2, fits 3, fits 4, fits 5, fits 6, fits 7);
 }
 
-number_taken : (w : Width) (limit : ℕ) (wide : IsWide w limit) (bytes : List ℕ) (n : ℕ) (rest : List ℕ) → AreBytes bytes → number w bytes ≡ Ok (n, rest) → Takes bytes (to_be_bytes w n) rest × (n < limit) × Unit {0}
+number_taken : (w : Width) (limit : ℕ) (wide : IsWide w limit) (bytes : List ℕ) (n : ℕ) (rest : List ℕ) → AreBytes bytes →
+    number w bytes ≡ Ok (n, rest) → Takes bytes (to_be_bytes w n) rest × (n < limit) × Unit {0}
 number_taken w limit wide bytes n rest fits e =
     let g = guard_ok (ltb (length bytes) (byte_len w)) Short (from_be_bytes w (take (byte_len w) bytes), drop (byte_len w) bytes) (n, rest) e in
     let long : byte_len w ≤ length bytes = ltb-false _ _ g.0 in
     let n-is : from_be_bytes w (take (byte_len w) bytes) ≡ n = ap (λ (p : ℕ × List ℕ). p.0) g.1 in
     let rest-is : drop (byte_len w) bytes ≡ rest = ap (λ (p : ℕ × List ℕ). p.1) g.1 in
-    let front : to_be_bytes w n ≡ take (byte_len w) bytes = rw (← n-is) (wide.back (take (byte_len w) bytes) (omega (arith, length-take (byte_len w) bytes)) (AreBytes-take (byte_len w) bytes fits)) in (
+    let front : to_be_bytes w n ≡ take (byte_len w) bytes =
+    rw (← n-is) (wide.back (take (byte_len w) bytes) (omega (arith, length-take (byte_len w) bytes)) (AreBytes-take (byte_len w) bytes fits)) in (
       record { parts = rw (front, ← rest-is) (sym (take-append-drop (byte_len w) bytes)); rest_bytes = rw (← rest-is) (AreBytes-drop (byte_len w) bytes fits) },
       rw (← n-is) (wide.below (take (byte_len w) bytes) (AreBytes-take (byte_len w) bytes fits)),
       tt,
@@ -134,7 +138,8 @@ number64 = number_law w64 (2 ^ 64) wide64
 
 -- ---- what is built from others
 
-such_that_taken : {A : Type 0} {r : Reader A} {s : A → List ℕ} {S R : A → Type 0} (rule : A → Bool) (law : Law r s S R) (bytes : List ℕ) (x : A) (rest : List ℕ) → AreBytes bytes → such_that rule r bytes ≡ Ok (x, rest)
+such_that_taken : {A : Type 0} {r : Reader A} {s : A → List ℕ} {S R : A → Type 0} (rule : A → Bool) (law : Law r s S R) (bytes : List ℕ) (x : A)
+    (rest : List ℕ) → AreBytes bytes → such_that rule r bytes ≡ Ok (x, rest)
     → Takes bytes (s x) rest × S x × (R x × (rule x ≡ true))
 such_that_taken {A} {r} {s} {S} {R} rule law bytes x rest fits e =
     let a = bind_ok (r bytes) (λ y. cond (rule y.0) (Ok y) (Err (Bad (length bytes)))) (x, rest) e in
@@ -168,7 +173,8 @@ pub both_law : {A B : Type 0} {r : Reader A} {s : A → List ℕ} {S R : A → T
 both_law law law' = record { taken = both_taken law law'; again = both_again law law' }
 
 -- what f makes of what was read
-pub seen_taken : {A B : Type 0} {r : Reader A} {s : A → List ℕ} {S R : A → Type 0} (f : A → B) (law : Law r s S R) (bytes : List ℕ) (y : B) (rest : List ℕ) → AreBytes bytes → seen f r bytes ≡ Ok (y, rest)
+pub seen_taken : {A B : Type 0} {r : Reader A} {s : A → List ℕ} {S R : A → Type 0} (f : A → B) (law : Law r s S R) (bytes : List ℕ) (y : B)
+    (rest : List ℕ) → AreBytes bytes → seen f r bytes ≡ Ok (y, rest)
     → (x : A) × (f x ≡ y) × Takes bytes (s x) rest × S x × R x
 seen_taken {A} {B} {r} {s} {S} {R} f law bytes y rest fits e =
     let a = bind_ok (r bytes) (λ x. Ok (f x.0, x.1)) (y, rest) e in
@@ -193,29 +199,34 @@ seen_law f g there back law = record {
 }
 
 -- the same law in other words
-restated_taken : {A : Type 0} {r : Reader A} {s : A → List ℕ} {S R : A → Type 0} (t : A → List ℕ) (S' R' : A → Type 0) (same : (x : A) → s x ≡ t x) (to : (x : A) → S x → R x → S' x × R' x) (law : Law r s S R)
+restated_taken : {A : Type 0} {r : Reader A} {s : A → List ℕ} {S R : A → Type 0} (t : A → List ℕ) (S' R' : A → Type 0) (same : (x : A) → s x ≡ t x)
+    (to : (x : A) → S x → R x → S' x × R' x) (law : Law r s S R)
     (bytes : List ℕ) (x : A) (rest : List ℕ) → AreBytes bytes → r bytes ≡ Ok (x, rest) → Takes bytes (t x) rest × S' x × R' x
 restated_taken t S' R' same to law bytes x rest fits e =
     let h = law.taken bytes x rest fits e in
     let k = to x h.1 h.2 in
     (subst (λ (u : List ℕ). Takes bytes u rest) (same x) h.0, k.0, k.1)
 
-restated_again : {A : Type 0} {r : Reader A} {s : A → List ℕ} {S R : A → Type 0} (t : A → List ℕ) (S' R' : A → Type 0) (same : (x : A) → s x ≡ t x) (from : (x : A) → S' x → R' x → S x × R x) (law : Law r s S R)
+restated_again : {A : Type 0} {r : Reader A} {s : A → List ℕ} {S R : A → Type 0} (t : A → List ℕ) (S' R' : A → Type 0) (same : (x : A) → s x ≡ t x)
+    (from : (x : A) → S' x → R' x → S x × R x) (law : Law r s S R)
     (x : A) (rest : List ℕ) → S' x → R' x → r (t x ++ rest) ≡ Ok (x, rest)
 restated_again {A} {r} t S' R' same from law x rest sized range =
     let k = from x sized range in
     ap (λ (u : List ℕ). r (u ++ rest)) (sym (same x)) ∙ law.again x rest k.0 k.1
 
-pub restated : {A : Type 0} {r : Reader A} {s : A → List ℕ} {S R : A → Type 0} (t : A → List ℕ) (S' R' : A → Type 0) → ((x : A) → s x ≡ t x) → ((x : A) → S x → R x → S' x × R' x) → ((x : A) → S' x → R' x → S x × R x)
+pub restated : {A : Type 0} {r : Reader A} {s : A → List ℕ} {S R : A → Type 0} (t : A → List ℕ) (S' R' : A → Type 0) → ((x : A) → s x ≡ t x) →
+    ((x : A) → S x → R x → S' x × R' x) → ((x : A) → S' x → R' x → S x × R x)
     → Law r s S R → Law r t S' R'
 restated t S' R' same to from law = record { taken = restated_taken t S' R' same to law; again = restated_again t S' R' same from law }
 
 -- ---- lists
 
-times_taken : {A : Type 0} {r : Reader A} {s : A → List ℕ} {S R : A → Type 0} (law : Law r s S R) (n : ℕ) (bytes : List ℕ) (xs : List A) (rest : List ℕ) → AreBytes bytes → times r n bytes ≡ Ok (xs, rest)
+times_taken : {A : Type 0} {r : Reader A} {s : A → List ℕ} {S R : A → Type 0} (law : Law r s S R) (n : ℕ) (bytes : List ℕ) (xs : List A)
+    (rest : List ℕ) → AreBytes bytes → times r n bytes ≡ Ok (xs, rest)
     → Takes bytes (flat_map s xs) rest × (length xs ≡ n) × Each S xs × Each R xs
 times_taken {A} {r} {s} {S} {R} law zero bytes xs rest fits e =
-    subst (λ (y : List A × List ℕ). Takes bytes (flat_map s y.0) y.1 × (length y.0 ≡ 0) × Each S y.0 × Each R y.0) (ok_is ([], bytes) (xs, rest) e) (record { parts = refl; rest_bytes = fits }, refl, tt, tt)
+    subst (λ (y : List A × List ℕ). Takes bytes (flat_map s y.0) y.1 × (length y.0 ≡ 0) × Each S y.0 × Each R y.0) (ok_is ([], bytes) (xs, rest) e)
+    (record { parts = refl; rest_bytes = fits }, refl, tt, tt)
 times_taken {A} {r} {s} {S} {R} law (suc n) bytes xs rest fits e =
     let a = bind_ok (r bytes) (λ x. times r n x.1 >>= λ others. Ok (x.0 ∷ others.0, others.1)) (xs, rest) e in
     let b = bind_ok (times r n a.0.1) (λ others. Ok (a.0.0 ∷ others.0, others.1)) (xs, rest) a.2 in
@@ -225,7 +236,8 @@ times_taken {A} {r} {s} {S} {R} law (suc n) bytes xs rest fits e =
     subst (λ (y : List A × List ℕ). Takes bytes (flat_map s y.0) y.1 × (length y.0 ≡ suc n) × Each S y.0 × Each R y.0) (ok_is (a.0.0 ∷ b.0.0, b.0.1) (xs, rest) b.2)
     (rw flat_map-cons joined, ap suc second.1, (first.1, second.2), (first.2, second.3))
 
-times_again : {A : Type 0} {r : Reader A} {s : A → List ℕ} {S R : A → Type 0} (law : Law r s S R) (xs : List A) (rest : List ℕ) → Each S xs → Each R xs → times r (length xs) (flat_map s xs ++ rest) ≡ Ok (xs, rest)
+times_again : {A : Type 0} {r : Reader A} {s : A → List ℕ} {S R : A → Type 0} (law : Law r s S R) (xs : List A) (rest : List ℕ) → Each S xs →
+    Each R xs → times r (length xs) (flat_map s xs ++ rest) ≡ Ok (xs, rest)
 times_again law [] rest sized range = refl
 times_again {A} {r} {s} law (x ∷ xs) rest sized range =
     let regrouped : flat_map s (x ∷ xs) ++ rest ≡ s x ++ (flat_map s xs ++ rest) = ap (λ (t : List ℕ). t ++ rest) (flat_map-cons s x xs) ∙ append_assoc (s x) (flat_map s xs) rest in

@@ -35,7 +35,8 @@ ends NoMemory item front count i bytes total lt h so_far = tt
 ends Short item front count i bytes total lt h so_far = stops reading.Short item front count i bytes total lt h so_far
 ends (Bad left) item front count i bytes total lt h so_far = stops (reading.Bad left) item front count i bytes total lt h so_far
 
-pub is_done : {A : Type 0} (item : Reader A) (front : List A) (count i : ℕ) (bytes : List ℕ) (total : Result (List A × List ℕ) Fault) → count ≤ i → with_front front (times item (count - i) bytes) ≡ total → total ≡ Ok (front, bytes)
+pub is_done : {A : Type 0} (item : Reader A) (front : List A) (count i : ℕ) (bytes : List ℕ) (total : Result (List A × List ℕ) Fault) → count ≤ i →
+    with_front front (times item (count - i) bytes) ≡ total → total ≡ Ok (front, bytes)
 is_done {A} item front count i bytes total le so_far =
     let k : count - i ≡ 0 = omega arith in
     let one : with_front front (times item (count - i) bytes) ≡ Ok (front, bytes) = rw k (ap (λ (ns : List A). Ok (ns, bytes)) (append-nil front)) in

@@ -20,7 +20,8 @@ from_tests most n h = and_from (nat_le 1 n) (nat_le n most) (le-leb 1 n h.0) (le
 
 pub step_law : Law step spelled_step StepSized StepInRange
 unfolding step
-step_law = restated spelled_step StepSized StepInRange (λ s. refl) (λ s sized range. (sized, from_holds most_children s.child range.1.1)) (λ s sized range. (sized, (tt, (tt, from_tests most_children s.child range))))
+step_law = restated spelled_step StepSized StepInRange (λ s. refl) (λ s sized range. (sized, from_holds most_children s.child range.1.1))
+    (λ s sized range. (sized, (tt, (tt, from_tests most_children s.child range))))
     (seen_law (λ s. record { rule = s.0; child = s.1 }) (λ s. (s.rule, s.child)) (λ x. refl) (λ y. refl) (both_law number16 (such_that_law (is_from_1_to most_children) byte_law)))
 
 abbrev TrailSized : List Step → Type 0
@@ -47,7 +48,8 @@ abbrev NumberSized : ℕ → Type 0
 NumberSized n = n < 2 ^ 16
 
 slot_number_law : (most : ℕ) → Law (such_that (is_from_1_to most) (number w16)) (to_be_bytes w16) NumberSized (From1To most)
-slot_number_law most = restated (to_be_bytes w16) NumberSized (From1To most) (λ n. refl) (λ n sized range. (sized, from_holds most n range.1)) (λ n sized range. (sized, (tt, from_tests most n range))) (such_that_law (is_from_1_to most) number16)
+slot_number_law most = restated (to_be_bytes w16) NumberSized (From1To most) (λ n. refl) (λ n sized range. (sized, from_holds most n range.1))
+    (λ n sized range. (sized, (tt, from_tests most n range))) (such_that_law (is_from_1_to most) number16)
 
 abbrev SlotTakes : List ℕ → List ℕ → Slot → Type 0
 SlotTakes bytes rest x = Takes bytes (spelled_slot x) rest × SlotSized x × SlotInRange x

@@ -12,7 +12,8 @@ use Rattle.aw_codec.specs.Names.{is_at_most, is_from_1_to, step, trail, node, sl
 use Rattle.aw_codec.specs.Texts.{text}
 use Rattle.aw_codec.specs.Grounds.{head, in_turn, no_term, with_parts, ground, arguments}
 use Rattle.aw_codec.specs.Choices.{choice}
-use Rattle.aw_codec.proofs.Extending.{Extends, next, next_extends, via, nothing, nothing_extends, given_extends, by_tag, by_tag_extends, byte_extends, number_extends, such_that_extends, seen_extends, both_extends, counted_extends}
+use Rattle.aw_codec.proofs.Extending.{Extends, next, next_extends, via, nothing, nothing_extends, given_extends, by_tag, by_tag_extends, byte_extends}
+use Rattle.aw_codec.proofs.Extending.{number_extends, such_that_extends, seen_extends, both_extends, counted_extends}
 
 pub at_most_extends : (most : ℕ) → Extends (such_that (is_at_most most) byte)
 at_most_extends most = such_that_extends (is_at_most most) byte_extends
@@ -76,7 +77,8 @@ head_is (suc (suc (suc zero)) ∷ bytes) = refl
 head_is (suc (suc (suc (suc b))) ∷ bytes) = refl
 
 head_extends : Extends head
-head_extends = via head_is (by_tag_extends nothing_extends (seen_extends _ (both_extends (number_extends w16) (at_most_extends most_parts))) (seen_extends _ (number_extends w64)) (seen_extends _ text_extends))
+head_extends = via head_is (by_tag_extends nothing_extends (seen_extends _ (both_extends (number_extends w16) (at_most_extends most_parts)))
+    (seen_extends _ (number_extends w64)) (seen_extends _ text_extends))
 
 in_turn_extends : {A : Type 0} {item : ℕ → Reader (A × ℕ)} → ((allowed : ℕ) → Extends (item allowed)) → (n allowed : ℕ) → Extends (in_turn item n allowed)
 in_turn_extends h zero allowed = via (λ bytes. refl) (given_extends ([], allowed))
@@ -117,4 +119,5 @@ choice_is (suc (suc (suc zero)) ∷ bytes) = refl
 choice_is (suc (suc (suc (suc b))) ∷ bytes) = refl
 
 pub choice_extends : Extends choice
-choice_extends = via choice_is (by_tag_extends (seen_extends _ (both_extends (number_extends w16) (number_extends w64))) (seen_extends _ (both_extends node_extends (both_extends (number_extends w16) arguments_extends))) nothing_extends nothing_extends)
+choice_extends = via choice_is (by_tag_extends (seen_extends _ (both_extends (number_extends w16) (number_extends w64)))
+    (seen_extends _ (both_extends node_extends (both_extends (number_extends w16) arguments_extends))) nothing_extends nothing_extends)

@@ -17,11 +17,13 @@ regroup : {A : Type 0} (front : List A) (n : A) (read : Result ((List A × ℕ) 
 regroup {A} front n (Ok x) = ap (λ (ns : List A). Ok ((ns, x.0.1), x.1)) (simp append_assoc)
 regroup front n (Err f) = refl
 
-pub goes_on : {A : Type 0} (item : ℕ → Reader (A × ℕ)) (front : List A) (count i left : ℕ) (bytes : List ℕ) (n : A) (less : ℕ) (after : List ℕ) (total : Result ((List A × ℕ) × List ℕ) Fault) → i < count → item left bytes ≡ Ok ((n, less), after)
+pub goes_on : {A : Type 0} (item : ℕ → Reader (A × ℕ)) (front : List A) (count i left : ℕ) (bytes : List ℕ) (n : A) (less : ℕ) (after : List ℕ)
+    (total : Result ((List A × ℕ) × List ℕ) Fault) → i < count → item left bytes ≡ Ok ((n, less), after)
     → with_front front (in_turn item (count - i) left bytes) ≡ total → with_front (front ++ n ∷ []) (in_turn item (count - (i + 1)) less after) ≡ total
 goes_on item front count i left bytes n less after total lt h so_far =
     let k : count - i ≡ suc (count - (i + 1)) = omega arith in
-    let one : with_front front (in_turn item (count - i) left bytes) ≡ with_front (front ++ n ∷ []) (in_turn item (count - (i + 1)) less after) = rw (k, h) (regroup front n (in_turn item (count - (i + 1)) less after)) in
+    let one : with_front front (in_turn item (count - i) left bytes) ≡ with_front (front ++ n ∷ []) (in_turn item (count - (i + 1)) less after) =
+    rw (k, h) (regroup front n (in_turn item (count - (i + 1)) less after)) in
     sym one ∙ so_far
 
 stops : {A : Type 0} (f : Fault) (item : ℕ → Reader (A × ℕ)) (front : List A) (count i left : ℕ) (bytes : List ℕ) (total : Result ((List A × ℕ) × List ℕ) Fault) → i < count → item left bytes ≡ Err f
@@ -31,13 +33,16 @@ stops f item front count i left bytes total lt h so_far =
     let one : with_front front (in_turn item (count - i) left bytes) ≡ Err f = rw (k, h) refl in
     sym so_far ∙ one
 
-pub ends : {A : Type 0} (e : Unread) (item : ℕ → Reader (A × ℕ)) (front : List A) (count i left : ℕ) (bytes : List ℕ) (total : Result ((List A × ℕ) × List ℕ) Fault) → i < count → Fails e (item left bytes)
+pub ends : {A : Type 0} (e : Unread) (item : ℕ → Reader (A × ℕ)) (front : List A) (count i left : ℕ) (bytes : List ℕ)
+    (total : Result ((List A × ℕ) × List ℕ) Fault) → i < count → Fails e (item left bytes)
     → with_front front (in_turn item (count - i) left bytes) ≡ total → Fails e total
 ends NoMemory item front count i left bytes total lt h so_far = tt
 ends Short item front count i left bytes total lt h so_far = stops reading.Short item front count i left bytes total lt h so_far
 ends (Bad n) item front count i left bytes total lt h so_far = stops (reading.Bad n) item front count i left bytes total lt h so_far
 
-pub is_done : {A : Type 0} (item : ℕ → Reader (A × ℕ)) (front : List A) (count i left : ℕ) (bytes : List ℕ) (total : Result ((List A × ℕ) × List ℕ) Fault) → count ≤ i → with_front front (in_turn item (count - i) left bytes) ≡ total → total ≡ Ok ((front, left), bytes)
+pub is_done : {A : Type 0} (item : ℕ → Reader (A × ℕ)) (front : List A) (count i left : ℕ) (bytes : List ℕ)
+    (total : Result ((List A × ℕ) × List ℕ) Fault) → count ≤ i → with_front front (in_turn item (count - i) left bytes) ≡ total →
+    total ≡ Ok ((front, left), bytes)
 is_done {A} item front count i left bytes total le so_far =
     let k : count - i ≡ 0 = omega arith in
     let one : with_front front (in_turn item (count - i) left bytes) ≡ Ok ((front, left), bytes) = rw k (ap (λ (ns : List A). Ok ((ns, left), bytes)) (append-nil front)) in
@@ -69,5 +74,6 @@ by_head : (levels allowed : ℕ) (bytes : List ℕ) → ground (suc levels) (suc
 unfolding ground
 by_head levels allowed bytes = refl
 
-pub ground_step : (levels below allowed left : ℕ) (bytes : List ℕ) → levels ≡ suc below → allowed ≡ suc left → ground levels allowed bytes ≡ (head bytes >>= λ h. with_parts (ground below) h.0 left h.1)
+pub ground_step : (levels below allowed left : ℕ) (bytes : List ℕ) → levels ≡ suc below → allowed ≡ suc left →
+    ground levels allowed bytes ≡ (head bytes >>= λ h. with_parts (ground below) h.0 left h.1)
 ground_step levels below allowed left bytes e f = ap (λ n. ground n allowed bytes) e ∙ ap (λ n. ground (suc below) n bytes) f ∙ by_head below left bytes

@@ -15,11 +15,13 @@ use Rattle.aw_courier.proofs.ReplyLemmas.{reply-nothing}
 use Rattle.aw_courier.proofs.TurnLemmas.{TalksThen}
 
 -- some more bytes of a reply
-pub more-read : {W' : Type 0} (talks : W' → W' → List ℕ → List ℕ → Bool → Type 0) → TalksThen talks → (u v w : W') (bytes piece : List ℕ) → talks u v bytes [] false → talks v w piece [] false → talks u w (bytes ++ piece) [] false
+pub more-read : {W' : Type 0} (talks : W' → W' → List ℕ → List ℕ → Bool → Type 0) → TalksThen talks → (u v w : W') (bytes piece : List ℕ) →
+    talks u v bytes [] false → talks v w piece [] false → talks u w (bytes ++ piece) [] false
 more-read {W'} talks then u v w bytes piece a b = then u v w bytes [] piece [] false a b
 
 -- no more bytes of a reply came
-pub not-read : {W' : Type 0} (g : Grammar) (request : Request) (talks : W' → W' → List ℕ → List ℕ → Bool → Type 0) → TalksThen talks → (u v w : W') (bytes : List ℕ) (left : Option Content) (fault : Broken) → talks u v bytes [] false →
+pub not-read : {W' : Type 0} (g : Grammar) (request : Request) (talks : W' → W' → List ℕ → List ℕ → Bool → Type 0) → TalksThen talks →
+    (u v w : W') (bytes : List ℕ) (left : Option Content) (fault : Broken) → talks u v bytes [] false →
     reply g request bytes ≡ Err Short → ReadsNoMore (talks v w) left fault → IsUnread g request (talks u w) left fault
 not-read {W'} g request talks then u v w bytes left broken.Net a short h = record {
   read = bytes ++ [];
@@ -43,7 +45,8 @@ pub wrong-read : {W' : Type 0} (g : Grammar) (request : Request) (talks : W' →
 wrong-read {W'} g request talks u v bytes left a none = record { read = bytes; talked = a; why = (refl, Wrong none) }
 
 -- the request was not written whole
-pub not-written : {W' : Type 0} (g : Grammar) (request : Request) (content : W' → Option Content) (is_open : W' → Bool) (faults failed_openings : W' → ℕ) (u v : W') (frame : List ℕ) (left : Option Content) →
+pub not-written : {W' : Type 0} (g : Grammar) (request : Request) (content : W' → Option Content) (is_open : W' → Bool) (faults failed_openings : W' →
+    ℕ) (u v : W') (frame : List ℕ) (left : Option Content) →
     TalksInPart content is_open faults failed_openings u v frame → IsBrokenOff g request frame (Talks content is_open faults failed_openings u v) left broken.Net
 not-written {W'} g request content is_open faults failed_openings u v frame left h = record {
   written = take h.count frame;
@@ -54,12 +57,14 @@ not-written {W'} g request content is_open faults failed_openings u v frame left
 }
 
 -- the request was written, and its reply was not read whole
-why-broken : (g : Grammar) (request : Request) (frame written read : List ℕ) (left : Option Content) (fault : Broken) → written ≡ frame → WhyBroken g request [] [] read left fault → WhyBroken g request frame written read left fault
+why-broken : (g : Grammar) (request : Request) (frame written read : List ℕ) (left : Option Content) (fault : Broken) → written ≡ frame →
+    WhyBroken g request [] [] read left fault → WhyBroken g request frame written read left fault
 why-broken g request frame written read left broken.Net e h = h
 why-broken g request frame written read left broken.Reply e h = (e, h.1)
 why-broken g request frame written read left broken.NoMemory e h = tt
 
-pub not-answered : {W' : Type 0} (g : Grammar) (request : Request) (talks : W' → W' → List ℕ → List ℕ → Bool → Type 0) → TalksThen talks → (u v w : W') (frame : List ℕ) (left : Option Content) (fault : Broken) → talks u v [] frame false →
+pub not-answered : {W' : Type 0} (g : Grammar) (request : Request) (talks : W' → W' → List ℕ → List ℕ → Bool → Type 0) → TalksThen talks →
+    (u v w : W') (frame : List ℕ) (left : Option Content) (fault : Broken) → talks u v [] frame false →
     IsUnread g request (talks v w) left fault → IsBrokenOff g request frame (talks u w) left fault
 not-answered {W'} g request talks then u v w frame left fault a h = record {
   written = frame ++ [];

@@ -72,7 +72,8 @@ brings-message g bytes k sized fits n read few =
     let text = message_law.taken w.payload k [] head-of.0.rest_bytes read' in
     let spelled : S.spelled_message (message_of g k) ≡ w.payload = same-spelling g k ∙ sym (text.0.parts ∙ append-nil (M.spelled_message k)) in (
       w.reply_is g ∙ ap (λ j. known w.count (heard_in g j w.payload) []) seven ∙ ap (λ o. known w.count o []) gives,
-      ap (λ p. 1 ∷ (to_be_bytes w32 (length p) ++ p)) spelled ∙ ap (λ c. 1 ∷ (to_be_bytes w32 c ++ w.payload)) w.counted ∙ ap (λ r. 1 ∷ r) (sym head-of.0.parts) ∙ ap (λ xs. 1 ∷ behind xs) (sym w.bytes_are),
+      ap (λ p. 1 ∷ (to_be_bytes w32 (length p) ++ p)) spelled ∙ ap (λ c. 1 ∷ (to_be_bytes w32 c ++ w.payload)) w.counted
+          ∙ ap (λ r. 1 ∷ r) (sym head-of.0.parts) ∙ ap (λ xs. 1 ∷ behind xs) (sym w.bytes_are),
     )
 
 pub gave-far : (g : Grammar) (payload : List ℕ) (k : Message) (rest : List ℕ) → message payload ≡ Ok (k, rest) → (rest ≡ [] → g.roles ≤ k.to) → gave g (whole message payload) ≡ None
@@ -87,7 +88,8 @@ pub gave-unread : (g : Grammar) (payload : List ℕ) (fault : Fault) → message
 gave-unread g payload fault e = ap (λ r. gave g (all_of r)) e
 
 -- what the payload's message is for
-pub brings-addressed : (g : Grammar) (bytes : List ℕ) (roles : ℕ) (k : Message) (rest : List ℕ) (b : Brought) → IsSized Pull bytes → AreBytes bytes → slice_index bytes 0 ≢ 10 → message (drop 5 bytes) ≡ Ok (k, rest) → g.roles ≡ roles →
+pub brings-addressed : (g : Grammar) (bytes : List ℕ) (roles : ℕ) (k : Message) (rest : List ℕ) (b : Brought) → IsSized Pull bytes → AreBytes bytes →
+    slice_index bytes 0 ≢ 10 → message (drop 5 bytes) ≡ Ok (k, rest) → g.roles ≡ roles →
     IsAddressed k.to rest roles b → Brings g bytes b
 brings-addressed g bytes roles k rest (brought.Message found) sized fits n read e h =
     let few : k.to < g.roles = omega (arith, e, h.2) in

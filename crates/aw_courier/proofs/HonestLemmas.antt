@@ -1,5 +1,6 @@
 -- What the answers mean over an honest wire.
-use Rattle.std.proofs.Common.{◌≡◌, ℕ, ◌+◌, ◌-◌, ◌<◌, ◌≤◌, ◌^◌, Bool, true, false, cond, List, [], ◌∷◌, ◌++◌, map, length, take, drop, Option, Some, None, Result, Ok, Err, refl, sym, ap, subst, ◌∙◌, arith, append_assoc, append-nil, length-append}
+use Rattle.std.proofs.Common.{◌≡◌, ℕ, ◌+◌, ◌-◌, ◌<◌, ◌≤◌, ◌^◌, Bool, true, false, cond, List, [], ◌∷◌, ◌++◌, map, length, take, drop, Option, Some}
+use Rattle.std.proofs.Common.{None, Result, Ok, Err, refl, sym, ap, subst, ◌∙◌, arith, append_assoc, append-nil, length-append}
 use Rattle.std.specs.Prelude.{nat_lt, IfOk}
 use Rattle.std.specs.Int.{w32, to_be_bytes}
 use Rattle.std.proofs.lemmas.Bool.{ltb-false}
@@ -32,7 +33,8 @@ use Rattle.aw_msg.proofs.Lengths.{payload_short}
 use Rattle.aw_msg.proofs.MessageLaws.{message_law}
 use Rattle.aw_session.specs.Frames.{joined}
 use Rattle.aw_law_nodes.specs.Couriers as C
-use Rattle.aw_law_nodes.specs.Couriers.{Heard, Gave, hear, flat, IsPrefix, IsHonestWire, choice_frames, session_frames, visit_frames, turn_room, new_courier, AreTurns, HasRole, ChoicesOk, IsQuietCall, IsSpentCall, QuietMeansQuiet}
+use Rattle.aw_law_nodes.specs.Couriers.{Heard, Gave, hear, flat, IsPrefix, IsHonestWire, choice_frames, session_frames, visit_frames, turn_room}
+use Rattle.aw_law_nodes.specs.Couriers.{new_courier, AreTurns, HasRole, ChoicesOk, IsQuietCall, IsSpentCall, QuietMeansQuiet}
 use Rattle.aw_law_nodes.specs.Encodable.{HasBytes, IsHonestInBytes, BytesAreHonest}
 use Rattle.aw_law_nodes.specs.Sizes.{ChoicesSized, GrammarSized}
 use Rattle.aw_law_nodes.specs.Ending.{RoundsAreBounded}
@@ -77,7 +79,8 @@ sized-ok : (g : Grammar) (kind : ℕ) (rest : List ℕ) (num : Result (ℕ × Li
 sized-ok g kind rest (Err e) h q = absurd cc
 sized-ok g kind rest (Ok x) h q = go (fits_length kind x.0) q
   where
-    go : (b : Bool) → (fitted rest x b >>= λ n. payload_at g kind n.0 n.1) ≡ Ok (h, []) → (y : ℕ × List ℕ) × (◌≡◌ {A = Result (ℕ × List ℕ) Fault} (Ok x) (Ok y)) × (length y.1 ≡ y.0) × (heard_in g kind y.1 ≡ Some h)
+    go : (b : Bool) → (fitted rest x b >>= λ n. payload_at g kind n.0 n.1) ≡ Ok (h, []) → (y : ℕ × List ℕ)
+        × (◌≡◌ {A = Result (ℕ × List ℕ) Fault} (Ok x) (Ok y)) × (length y.1 ≡ y.0) × (heard_in g kind y.1 ≡ Some h)
     go true q = let p = payload-ok g kind x.0 x.1 h q in (x, refl, p.0, p.1)
     go false q = absurd cc
 
@@ -130,7 +133,8 @@ whole-message : (k : Message) → M.MessageSized k → M.MessageInRange k → wh
 whole-message k fits range = ap (λ r. F.all_of r) (ap message (sym (append-nil (M.spelled_message k))) ∙ message_law.again k [] fits range)
 
 -- what is heard in the payload of a site's reply
-heard-is : (w : Words) (g : Grammar) (request : Request) (x : Response) (h : Heard) → HasBytes g x → may_have request (reply_kind (told x)) ≡ true → heard_in g (reply_kind (told x)) (reply_payload w (told x)) ≡ Some h → h ≡ hear x
+heard-is : (w : Words) (g : Grammar) (request : Request) (x : Response) (h : Heard) → HasBytes g x → may_have request (reply_kind (told x)) ≡ true →
+    heard_in g (reply_kind (told x)) (reply_payload w (told x)) ≡ Some h → h ≡ hear x
 heard-is w g request WasNew h t m e = sym (some-is e)
 heard-is w g request WasHeld h t m e = sym (some-is e)
 heard-is w g request (Contradicts kept came) h t m e = never t
@@ -153,7 +157,8 @@ front-same (x ∷ xs) (y ∷ ys) us vs l e =
     let l' : length xs ≡ length ys = omega (arith, l) in
     ap (λ z. z ∷ xs) s.0 ∙ ap (λ zs. y ∷ zs) (front-same xs ys us vs l' s.1)
 
-one-reply : (w : Words) (g : Grammar) (request : Request) (b u v : List ℕ) (h : Heard) (x : Response) → reply g request b ≡ Ok (h, []) → HasBytes g x → b ++ u ≡ reply_bytes w x ++ v → (b ≡ reply_bytes w x) × (h ≡ hear x)
+one-reply : (w : Words) (g : Grammar) (request : Request) (b u v : List ℕ) (h : Heard) (x : Response) → reply g request b ≡ Ok (h, []) →
+    HasBytes g x → b ++ u ≡ reply_bytes w x ++ v → (b ≡ reply_bytes w x) × (h ≡ hear x)
 one-reply w g request b u v h x e has q =
     let k = reply-ok g request b h e in
     let P = reply_payload w (told x) in
@@ -180,7 +185,8 @@ none-empty g request [] h e c zs q = absurd (let n = reply-nothing g request in 
 none-empty g request (y ∷ b) h e c zs q = absurd cc
 
 -- what is heard in bytes that begin those of the sites' replies
-pub all-heard : (w : Words) (g : Grammar) (fs : List Frame) (hs : List Heard) (bs : List (List ℕ)) (xs : List Response) → AreHeard g fs hs bs → Each (HasBytes g) xs → IsPrefix (joined bs) (joined (map (reply_bytes w) xs)) → IsPrefix hs (map hear xs)
+pub all-heard : (w : Words) (g : Grammar) (fs : List Frame) (hs : List Heard) (bs : List (List ℕ)) (xs : List Response) → AreHeard g fs hs bs →
+    Each (HasBytes g) xs → IsPrefix (joined bs) (joined (map (reply_bytes w) xs)) → IsPrefix hs (map hear xs)
 all-heard w g [] [] [] xs k has p = (map hear xs, refl)
 all-heard w g (f ∷ fs) (h ∷ hs) (b ∷ bs) [] k has (zs, q) = never (none-empty g (request_of f) b h k.0 (joined bs) zs q)
 all-heard w g (f ∷ fs) (h ∷ hs) (b ∷ bs) (x ∷ xs) k has (zs, q) =
@@ -223,16 +229,19 @@ same-sessions (v ∷ vs) = ap (λ ss. v.turn.session ∷ ss) (same-sessions vs)
 
 same-rounds : (rounds : List (List Visit)) → map (λ vs. map C.session_of vs) (map (λ vs. map visit_of vs) rounds) ≡ map sessions_of (map (λ vs. map turn_of vs) rounds)
 same-rounds [] = refl
-same-rounds (vs ∷ rounds) = ap (λ ss. ss ∷ map (λ vs. map C.session_of vs) (map (λ vs. map visit_of vs) rounds)) (same-sessions vs) ∙ ap (λ sss. sessions_of (map turn_of vs) ∷ sss) (same-rounds rounds)
+same-rounds (vs ∷ rounds) = ap (λ ss. ss ∷ map (λ vs. map C.session_of vs) (map (λ vs. map visit_of vs) rounds)) (same-sessions vs)
+    ∙ ap (λ sss. sessions_of (map turn_of vs) ∷ sss) (same-rounds rounds)
 
 pull-fits : (p : ℕ) → size (PullFrame p) ≤ turn_room
 pull-fits p = omega arith
 
 -- rounds as their sessions
-turns-as : (g : Grammar) (rounds : List (List C.Visit)) (end : List C.Visit) → AreTurns size g (new_courier g) (flat (map (λ vs. map C.session_of vs) rounds) ++ map C.session_of end) → AreTurns size g (new_courier g) (map C.session_of (flat rounds ++ end))
+turns-as : (g : Grammar) (rounds : List (List C.Visit)) (end : List C.Visit) → AreTurns size g (new_courier g)
+    (flat (map (λ vs. map C.session_of vs) rounds) ++ map C.session_of end) → AreTurns size g (new_courier g) (map C.session_of (flat rounds ++ end))
 turns-as g rounds end t = subst (λ ss. AreTurns size g (new_courier g) ss) (sym (map-append C.session_of (flat rounds) end ∙ ap (λ ss. ss ++ map C.session_of end) (flat-map C.session_of rounds))) t
 
-pub quiet-over-honest : (w : Words) (g : Grammar) → QuietMeansQuiet g → BytesAreHonest g → GrammarSized g → (before : List (List Turn)) (last : List Turn) → IsQuietCall size g (map sessions_of before) (sessions_of last) →
+pub quiet-over-honest : (w : Words) (g : Grammar) → QuietMeansQuiet g → BytesAreHonest g → GrammarSized g → (before : List (List Turn))
+    (last : List Turn) → IsQuietCall size g (map sessions_of before) (sessions_of last) →
     Each (IsHeard g) (flat before ++ last) → QuietOverHonest w g before last
 quiet-over-honest w g law bytes sized before last call heard loads es ok moves rounds end i j choices sizes none honest =
     let vss = map (λ vs. map visit_of vs) rounds in
@@ -240,7 +249,8 @@ quiet-over-honest w g law bytes sized before last call heard loads es ok moves r
     let call' : IsQuietCall size g (map (λ vs. map C.session_of vs) vss) (map C.session_of vs) =
     subst (λ ss. IsQuietCall size g ss (map C.session_of vs)) (sym (same-rounds rounds ∙ ap (λ ts. map sessions_of ts) i))
     (subst (λ ss. IsQuietCall size g (map sessions_of before) ss) (sym (same-sessions end ∙ ap sessions_of j)) call) in
-    let heard' : Each (IsHeard g) (map turn_of (flat rounds ++ end)) = subst (λ ts. Each (IsHeard g) ts) (sym (turns-are rounds end ∙ ap (λ ts. flat ts ++ map turn_of end) i ∙ ap (λ ts. flat before ++ ts) j)) heard in
+    let heard' : Each (IsHeard g) (map turn_of (flat rounds ++ end)) = subst (λ ts. Each (IsHeard g) ts)
+    (sym (turns-are rounds end ∙ ap (λ ts. flat ts ++ map turn_of end) i ∙ ap (λ ts. flat before ++ ts) j)) heard in
     let choices' = subst (λ ks. Each (ChoicesOk g) ks) (visits-are rounds end) choices in
     let sizes' = subst (λ ks. Each ChoicesSized ks) (visits-are rounds end) sizes in
     let known = each_append (HasRole g) (flat vss) vs (rounds-known g vss call'.each) (round-known g vs 0 g.roles (omega arith) call'.one) in
@@ -258,7 +268,8 @@ none-ok g (v ∷ vs) n =
     let z = none-ok g vs n.1 in
     ((subst (λ cs. Each (λ (c : Choice). choice_ok g c ≡ true) cs) (sym n.0) tt, z.0), (subst (λ cs. Each ChoiceSized cs) (sym n.0) tt, z.1))
 
-pub bound-over-honest : (w : Words) (g : Grammar) → RoundsAreBounded g → BytesAreHonest g → GrammarSized g → (before : List (List Turn)) → IsSpentCall size g (map sessions_of before) → Each (IsHeard g) (flat before) →
+pub bound-over-honest : (w : Words) (g : Grammar) → RoundsAreBounded g → BytesAreHonest g → GrammarSized g → (before : List (List Turn)) →
+    IsSpentCall size g (map sessions_of before) → Each (IsHeard g) (flat before) →
     (n : ℕ) → length before ≡ n → BoundOverHonest w g before n
 bound-over-honest w g law bytes sized before call heard n all loads es ok moves rounds i none honest =
     let vss = map (λ vs. map visit_of vs) rounds in
@@ -276,9 +287,11 @@ bound-over-honest w g law bytes sized before call heard n all loads es ok moves 
     omega (arith, few, as_visits, as_turns, all)
 
 -- what was carried, with what that means
-pub means-over-honest : (w : Words) (g : Grammar) → QuietMeansQuiet g → RoundsAreBounded g → BytesAreHonest g → GrammarSized g → {W' : Type 0} (content : W' → Option Content) (faults failed_openings : W' → ℕ) (rounds : ℕ) (u v : W') (r : Result Carried CarryFault) →
+pub means-over-honest : (w : Words) (g : Grammar) → QuietMeansQuiet g → RoundsAreBounded g → BytesAreHonest g → GrammarSized g →
+    {W' : Type 0} (content : W' → Option Content) (faults failed_openings : W' → ℕ) (rounds : ℕ) (u v : W') (r : Result Carried CarryFault) →
     IfOk r (Carries g content faults failed_openings rounds u v) → IfOk r (MeansOverHonest w g content faults failed_openings rounds u v)
-means-over-honest w g law ends bytes sized content faults failed_openings rounds u v (Ok Quiet) q = record { quiet = q; world = quiet-over-honest w g law bytes sized q.before q.last q.call q.made.heard }
+means-over-honest w g law ends bytes sized content faults failed_openings rounds u v (Ok Quiet) q =
+    record { quiet = q; world = quiet-over-honest w g law bytes sized q.before q.last q.call q.made.heard }
 means-over-honest w g law ends bytes sized content faults failed_openings rounds u v (Ok RoundsSpent) q =
     record { spent = q; world = bound-over-honest w g ends bytes sized q.before q.call q.made.heard rounds q.all }
 means-over-honest w g law ends bytes sized content faults failed_openings rounds u v (Err e) q = tt

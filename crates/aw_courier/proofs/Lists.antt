@@ -36,7 +36,8 @@ replies-one g (k ∷ fs) (y ∷ xs) f x h e = (h.0, replies-one g fs xs f x h.1 
 replies-one g [] (y ∷ xs) f x h e = absurd (elim h [ ])
 replies-one g (k ∷ fs) [] f x h e = absurd (elim h [ ])
 
-pub noted-one : (g : Grammar) (r : ℕ) (fs : List Frame) (xs : List Heard) (f : Frame) (x : Heard) (c : Courier) → AreReplies size g fs xs → noted r (fs ++ f ∷ []) (xs ++ x ∷ []) c ≡ note r f x (noted r fs xs c)
+pub noted-one : (g : Grammar) (r : ℕ) (fs : List Frame) (xs : List Heard) (f : Frame) (x : Heard) (c : Courier) → AreReplies size g fs xs →
+    noted r (fs ++ f ∷ []) (xs ++ x ∷ []) c ≡ note r f x (noted r fs xs c)
 noted-one g r [] [] f x c h = refl
 noted-one g r (k ∷ fs) (y ∷ xs) f x c h = noted-one g r fs xs f x (note r k y c) h.1
 noted-one g r [] (y ∷ xs) f x c h = absurd (elim h [ ])

@@ -16,19 +16,22 @@ use Rattle.aw_courier.proofs.Lists.{index-set, index-within}
 abbrev pub mailed : List (List (List ℕ)) → List ℕ → Mailed
 mailed qs ps = record { queues = qs; places = ps }
 
-pub next-same : (m : Mailed) (qs : List (List (List ℕ))) (ps : List ℕ) (r : ℕ) (q : List (List ℕ)) → m ≡ mailed qs ps → r < length m.queues → mailed (slice_set qs r q) ps ≡ with_queue m r (slice_index_or (slice_set qs r q) r [])
+pub next-same : (m : Mailed) (qs : List (List (List ℕ))) (ps : List ℕ) (r : ℕ) (q : List (List ℕ)) → m ≡ mailed qs ps → r < length m.queues →
+    mailed (slice_set qs r q) ps ≡ with_queue m r (slice_index_or (slice_set qs r q) r [])
 next-same m qs ps r q e lt =
     let few : r < length qs = subst (λ (k : Mailed). r < length k.queues) e lt in
     ap (λ x. mailed (slice_set qs r x) ps) (sym (index-set [] qs r q few)) ∙ ap (λ (k : Mailed). with_queue k r (slice_index_or (slice_set qs r q) r [])) (sym e)
 
-pub next-is : (m : Mailed) (qs : List (List (List ℕ))) (ps : List ℕ) (r room : ℕ) (old q : List (List ℕ)) (next : NextUp) → m ≡ mailed qs ps → r < length m.queues → old ≡ slice_index_or qs r old → IsNextUp room old q next →
+pub next-is : (m : Mailed) (qs : List (List (List ℕ))) (ps : List ℕ) (r room : ℕ) (old q : List (List ℕ)) (next : NextUp) → m ≡ mailed qs ps →
+    r < length m.queues → old ≡ slice_index_or qs r old → IsNextUp room old q next →
     IsNextUp room (queue_at m r) (slice_index_or (slice_set qs r q) r []) next
 next-is m qs ps r room old q next e lt is h =
     let few : r < length qs = subst (λ (k : Mailed). r < length k.queues) e lt in
     let old-is : old ≡ queue_at m r = is ∙ index-within [] old qs r few ∙ ap (λ (k : Mailed). queue_at k r) (sym e) in
     subst (λ x. IsNextUp room x (slice_index_or (slice_set qs r q) r []) next) old-is (subst (λ y. IsNextUp room old y next) (sym (index-set [] qs r q few)) h)
 
-pub put-queues : (m : Mailed) (qs : List (List (List ℕ))) (ps : List ℕ) (r : ℕ) (old q : List (List ℕ)) (frame : List ℕ) → m ≡ mailed qs ps → r < length m.queues → old ≡ slice_index_or qs r old → q ≡ old ++ frame ∷ [] →
+pub put-queues : (m : Mailed) (qs : List (List (List ℕ))) (ps : List ℕ) (r : ℕ) (old q : List (List ℕ)) (frame : List ℕ) → m ≡ mailed qs ps →
+    r < length m.queues → old ≡ slice_index_or qs r old → q ≡ old ++ frame ∷ [] →
     slice_set qs r q ≡ slice_set m.queues r (queue_at m r ++ frame ∷ [])
 put-queues m qs ps r old q frame e lt is new =
     let few : r < length qs = subst (λ (k : Mailed). r < length k.queues) e lt in
@@ -44,7 +47,8 @@ length-zeros i zero = refl
 length-zeros i (suc n) = ap suc (length-zeros (suc i) n)
 
 -- nothing was pulled yet
-pub shows-new : (g : Grammar) (qs : List (List (List ℕ))) (ps : List ℕ) (n : ℕ) → g.roles ≡ n → length qs ≡ n → ((b : ℕ) → slice_index_or qs b [] ≡ []) → ps ≡ replicate n 0 → Shows g (mailed qs ps) (new_courier g)
+pub shows-new : (g : Grammar) (qs : List (List (List ℕ))) (ps : List ℕ) (n : ℕ) → g.roles ≡ n → length qs ≡ n →
+    ((b : ℕ) → slice_index_or qs b [] ≡ []) → ps ≡ replicate n 0 → Shows g (mailed qs ps) (new_courier g)
 shows-new g qs ps n e many empty places = record {
   many = many ∙ sym e;
   places = places ∙ ap (λ (k : ℕ). replicate {A = ℕ} k 0) (sym e) ∙ sym (zeros 0 g.roles);

@@ -81,7 +81,8 @@ none-begins g request (kind ∷ rest) h = rw (reply-parts g request kind rest) (
 
 -- ---- more is to come
 
-short-sized : (g : Grammar) (kind : ℕ) (rest : List ℕ) (num : Result (ℕ × List ℕ) Fault) (n : ℕ) → number w32 rest ≡ num → size_with kind num ≡ Some n → suc (length rest) < n → sized g kind rest num ≡ Err Short
+short-sized : (g : Grammar) (kind : ℕ) (rest : List ℕ) (num : Result (ℕ × List ℕ) Fault) (n : ℕ) → number w32 rest ≡ num → size_with kind num ≡ Some
+    n → suc (length rest) < n → sized g kind rest num ≡ Err Short
 short-sized g kind rest (Err e) n i h lt = ap Err (number-short rest e i).0
 short-sized g kind rest (Ok x) n i h lt = go (fits_length kind x.0) h
   where
@@ -134,7 +135,8 @@ drop-all zero (x ∷ xs) e = absurd cc
 drop-all (suc n) [] e = refl
 drop-all (suc n) (x ∷ xs) e = drop-all n xs cc
 
-whole-sized : (g : Grammar) (kind : ℕ) (rest : List ℕ) (count : ℕ) (payload : List ℕ) → fits_length kind count ≡ true → length payload ≡ count → sized g kind rest (Ok (count, payload)) ≡ known count (heard_in g kind payload) []
+whole-sized : (g : Grammar) (kind : ℕ) (rest : List ℕ) (count : ℕ) (payload : List ℕ) → fits_length kind count ≡ true → length payload ≡ count →
+    sized g kind rest (Ok (count, payload)) ≡ known count (heard_in g kind payload) []
 whole-sized g kind rest count payload fits e =
     ap (λ b. fitted rest (count, payload) b >>= λ n. payload_at g kind n.0 n.1) fits
     ∙ ap (λ b. cond b (Err Short) (known (length payload) (heard_in g kind (take count payload)) (drop count payload))) (le-ltb (length payload) count (omega (arith, e)))

@@ -1,5 +1,6 @@
 -- Rounds, one turn after the other.
-use Rattle.std.proofs.Common.{◌≡◌, ℕ, suc, ◌+◌, ◌<◌, Bool, true, false, ◌||◌, List, [], ◌∷◌, ◌++◌, map, length, Option, None, Some, option_to_list, refl, sym, ap, subst, ◌∙◌, arith, append_assoc, append-nil, length-append}
+use Rattle.std.proofs.Common.{◌≡◌, ℕ, suc, ◌+◌, ◌<◌, Bool, true, false, ◌||◌, List, [], ◌∷◌, ◌++◌, map, length, Option, None, Some, option_to_list}
+use Rattle.std.proofs.Common.{refl, sym, ap, subst, ◌∙◌, arith, append_assoc, append-nil, length-append}
 use Rattle.std.specs.Prelude.{nat_lt}
 use Rattle.std.proofs.lemmas.Bool.{ltb-true, ltb-false}
 use Rattle.aw_out.specs.Wires as W
@@ -133,13 +134,16 @@ round-more {W'} g content faults failed_openings c n n' u v w m m' moved some h 
     record {
       turns = h.turns ++ t.turn ∷ [];
       made = record {
-        ordered = subst (λ ks. AreTurns size g c ks) (sym more) (turns-append g c ss (t.turn.session ∷ []) h.made.ordered (t.asked ∙ ap (λ r. requests size (after_all c ss) r t.turn.session.heard) (sym t.role), t.fit, tt));
+        ordered = subst (λ ks. AreTurns size g c ks) (sym more) (turns-append g c ss (t.turn.session ∷ []) h.made.ordered
+            (t.asked ∙ ap (λ r. requests size (after_all c ss) r t.turn.session.heard) (sym t.role), t.fit, tt));
         heard = each_push (IsHeard g) h.turns t.turn h.made.heard t.heard;
-        told = subst (λ ks. Both (Follow ks) (content u) (content w)) (sym (told-append h.turns (t.turn ∷ []))) (follow-then (map told_as h.turns) (told_as t.turn ∷ []) (content u) (content v) (content w) h.made.told t.told);
+        told = subst (λ ks. Both (Follow ks) (content u) (content w)) (sym (told-append h.turns (t.turn ∷ [])))
+            (follow-then (map told_as h.turns) (told_as t.turn ∷ []) (content u) (content v) (content w) h.made.told t.told);
         counts = t.counts ∙ h.made.counts;
         openings = t.openings ∙ h.made.openings;
       };
-      roles = ap (λ ks. map (λ (s : Session). s.role) ks) more ∙ roles-append ss (t.turn.session ∷ []) ∙ ap (λ ks. ks ++ t.turn.session.role ∷ []) h.roles ∙ ap (λ r. upto 0 n ++ r ∷ []) t.role ∙ sym (upto-next n n' e);
+      roles = ap (λ ks. map (λ (s : Session). s.role) ks) more ∙ roles-append ss (t.turn.session ∷ []) ∙ ap (λ ks. ks ++ t.turn.session.role ∷ [])
+          h.roles ∙ ap (λ r. upto 0 n ++ r ∷ []) t.role ∙ sym (upto-next n n' e);
       shows = subst (λ k. Shows g m' k) (sym (ap (λ ks. after_all c ks) more ∙ after-append c ss (t.turn.session ∷ []))) t.shows;
       moved_is = ap (λ b. b || some) h.moved_is ∙ ap (λ b. nat_lt 0 (round_moves ss) || b) t.moved_is ∙ lt-sum (round_moves ss) (moves t.turn.session.asked t.turn.session.heard)
           ∙ ap (λ k. nat_lt 0 k) (let q = moves-append ss (t.turn.session ∷ []) in let z : round_moves (t.turn.session ∷ []) ≡ moves t.turn.session.asked t.turn.session.heard + 0 = refl in
@@ -148,7 +152,8 @@ round-more {W'} g content faults failed_openings c n n' u v w m m' moved some h 
     }
 
 -- a turn broke off
-pub round-broken : {W' : Type 0} (g : Grammar) (content : W' → Option Content) (faults failed_openings : W' → ℕ) (c : Courier) (n : ℕ) (u v w : W') (m : Mailed) (moved : Bool) (why : Broken) (fault : CarryFault) →
+pub round-broken : {W' : Type 0} (g : Grammar) (content : W' → Option Content) (faults failed_openings : W' → ℕ) (c : Courier) (n : ℕ) (u v w : W')
+    (m : Mailed) (moved : Bool) (why : Broken) (fault : CarryFault) →
     (h : IsRoundMade g content faults failed_openings c n u v m moved) → IsStopped g content faults (after_all c (sessions_of h.turns)) n v w why → fault ≡ fault_at n why →
     IsRoundBroken g content faults c u w fault
 round-broken {W'} g content faults failed_openings c n u v w m moved why fault h k e = record {
@@ -172,7 +177,8 @@ pub record IsCarrying {W' : Type 0} (g : Grammar) (content : W' → Option Conte
   pub spent : IsSpent g content faults failed_openings n u v
   pub shows : Shows g m (after_all (new_courier g) (sessions_of (flat spent.before)))
 
-pub carrying-none : {W' : Type 0} (g : Grammar) (content : W' → Option Content) (faults failed_openings : W' → ℕ) (u : W') (m : Mailed) → Shows g m (new_courier g) → IsCarrying g content faults failed_openings 0 u u m
+pub carrying-none : {W' : Type 0} (g : Grammar) (content : W' → Option Content) (faults failed_openings : W' → ℕ) (u : W') (m : Mailed) →
+    Shows g m (new_courier g) → IsCarrying g content faults failed_openings 0 u u m
 carrying-none {W'} g content faults failed_openings u m s = record {
   spent = record {
     before = [];
@@ -196,7 +202,8 @@ made-then {W'} g content faults failed_openings c u v w xs ys h k = record {
 
 -- a round with a move
 pub carrying-more : {W' : Type 0} (g : Grammar) (content : W' → Option Content) (faults failed_openings : W' → ℕ) (n n' : ℕ) (u v w : W') (m m' : Mailed) →
-    (h : IsCarrying g content faults failed_openings n u v m) → IsRoundMade g content faults failed_openings (after_all (new_courier g) (sessions_of (flat h.spent.before))) g.roles v w m' true → n' ≡ n + 1 →
+    (h : IsCarrying g content faults failed_openings n u v m) → IsRoundMade g content faults failed_openings
+    (after_all (new_courier g) (sessions_of (flat h.spent.before))) g.roles v w m' true → n' ≡ n + 1 →
     IsCarrying g content faults failed_openings n' u w m'
 carrying-more {W'} g content faults failed_openings n n' u v w m m' h k e =
     let xss = h.spent.before in
@@ -214,12 +221,14 @@ carrying-more {W'} g content faults failed_openings n n' u v w m m' h k e =
         made = subst (λ ts. AreMade g content faults failed_openings (new_courier g) u w ts) (sym same) made;
         all = length-append xss (k.turns ∷ []) ∙ ap (λ i. i + 1) h.spent.all ∙ sym e;
       };
-      shows = subst (λ d. Shows g m' d) (sym (ap (λ ts. after_all (new_courier g) (sessions_of ts)) same ∙ ap (λ ks. after_all (new_courier g) ks) (sessions-append (flat xss) k.turns) ∙ after-append (new_courier g) (sessions_of (flat xss)) (sessions_of k.turns))) k.shows;
+      shows = subst (λ d. Shows g m' d) (sym (ap (λ ts. after_all (new_courier g) (sessions_of ts)) same ∙ ap (λ ks. after_all (new_courier g) ks)
+          (sessions-append (flat xss) k.turns) ∙ after-append (new_courier g) (sessions_of (flat xss)) (sessions_of k.turns))) k.shows;
     }
 
 -- a round without
 pub carrying-quiet : {W' : Type 0} (g : Grammar) (content : W' → Option Content) (faults failed_openings : W' → ℕ) (n rounds : ℕ) (u v w : W') (m m' : Mailed) →
-    (h : IsCarrying g content faults failed_openings n u v m) → IsRoundMade g content faults failed_openings (after_all (new_courier g) (sessions_of (flat h.spent.before))) g.roles v w m' false → n < rounds →
+    (h : IsCarrying g content faults failed_openings n u v m) → IsRoundMade g content faults failed_openings
+    (after_all (new_courier g) (sessions_of (flat h.spent.before))) g.roles v w m' false → n < rounds →
     IsQuiet g content faults failed_openings rounds u w
 carrying-quiet {W'} g content faults failed_openings n rounds u v w m m' h k lt =
     let xss = h.spent.before in
@@ -255,9 +264,12 @@ carrying-broken {W'} g content faults failed_openings n rounds u v w m fault h k
       few = few k.why (omega (arith, h.spent.all, lt));
       call = h.spent.call;
       begun = k.begun;
-      made = subst (λ ks. AreTurns size g (new_courier g) ks) (sym (sessions-append (flat xss) k.turns)) (turns-append g (new_courier g) (sessions_of (flat xss)) (sessions_of k.turns) h.spent.made.ordered k.made);
+      made = subst (λ ks. AreTurns size g (new_courier g) ks) (sym (sessions-append (flat xss) k.turns))
+          (turns-append g (new_courier g) (sessions_of (flat xss)) (sessions_of k.turns) h.spent.made.ordered k.made);
       heard = each_append (IsHeard g) (flat xss) k.turns h.spent.made.heard k.heard;
-      fits = subst (λ d. CutFits g d k.role (content w) k.why k.cut) (sym (ap (λ ks. after_all (new_courier g) ks) (sessions-append (flat xss) k.turns) ∙ after-append (new_courier g) (sessions_of (flat xss)) (sessions_of k.turns))) k.fits;
+      fits = subst (λ d. CutFits g d k.role (content w) k.why k.cut)
+          (sym (ap (λ ks. after_all (new_courier g) ks) (sessions-append (flat xss) k.turns) ∙ after-append (new_courier g) (sessions_of (flat xss))
+          (sessions_of k.turns))) k.fits;
       told = subst (λ ks. Both (Follow (ks ++ option_to_list k.cut)) (content u) (content w)) (sym (told-append (flat xss) k.turns))
           (subst (λ ks. Both (Follow ks) (content u) (content w)) (sym (append_assoc (map told_as (flat xss)) (map told_as k.turns) (option_to_list k.cut)))
           (follow-then (map told_as (flat xss)) (map told_as k.turns ++ option_to_list k.cut) (content u) (content v) (content w) h.spent.made.told k.told));
@@ -270,7 +282,8 @@ carrying-broken {W'} g content faults failed_openings n rounds u v w m fault h k
     few broken.NoMemory l = omega (arith, l)
 
 -- memory ran out before the first round
-pub carrying-never : {W' : Type 0} (g : Grammar) (content : W' → Option Content) (faults : W' → ℕ) (rounds : ℕ) (u : W') (fault : CarryFault) → fault ≡ fault_at 0 broken.NoMemory → IsBrokenOff g content faults rounds u u fault
+pub carrying-never : {W' : Type 0} (g : Grammar) (content : W' → Option Content) (faults : W' → ℕ) (rounds : ℕ) (u : W') (fault : CarryFault) →
+    fault ≡ fault_at 0 broken.NoMemory → IsBrokenOff g content faults rounds u u fault
 carrying-never {W'} g content faults rounds u fault e = record {
   before = [];
   turns = [];

@@ -20,7 +20,8 @@ use Rattle.aw_courier.specs.declared.replies.Request.TheVariants as request
 use Rattle.aw_courier.specs.declared.turns.Letter.{Letter}
 use Rattle.aw_courier.proofs.Lists.{frames-first, frames-none, get-is}
 use Rattle.aw_courier.proofs.ReplyLemmas.{whole-of}
-use Rattle.aw_courier.proofs.TurnLemmas.{TalksThen, one-more, said-again, stops, next-push, first-push, too-long, all-pushed, no-room, none-left, shows-push, next-pull, last-pull, first-pull, shows-pull}
+use Rattle.aw_courier.proofs.TurnLemmas.{TalksThen, one-more, said-again, stops, next-push, first-push, too-long, all-pushed, no-room, none-left}
+use Rattle.aw_courier.proofs.TurnLemmas.{shows-push, next-pull, last-pull, first-pull, shows-pull}
 
 or-true : (b : Bool) → true ≡ (b || true)
 or-true true = refl
@@ -84,7 +85,8 @@ first-of g m now r frame rest s few e =
     record { message = p.0; others = p.1; waits = p.2; spelled = p.3; behind = p.4 }
 
 -- one message was pushed
-pub pushed-one : {W' : Type 0} (g : Grammar) (talks : W' → W' → List ℕ → List ℕ → Bool → Type 0) → TalksThen talks → (c : Courier) (r room : ℕ) (u v w : W') (m m' : Mailed) (moved : Bool) (frame : List ℕ) (rest : List (List ℕ)) (bytes : List ℕ) →
+pub pushed-one : {W' : Type 0} (g : Grammar) (talks : W' → W' → List ℕ → List ℕ → Bool → Type 0) → TalksThen talks → (c : Courier) (r room : ℕ)
+    (u v w : W') (m m' : Mailed) (moved : Bool) (frame : List ℕ) (rest : List (List ℕ)) (bytes : List ℕ) →
     IsUnderway g talks c r u v m (pushing r room) moved → r < g.roles → queue_at m r ≡ frame ∷ rest → length frame ≤ room → m' ≡ with_queue m r rest → IsAsked request.Push frame (talks v w) bytes →
     IsUnderway g talks c r u w m' (pushing r (room - length frame)) true
 pushed-one {W'} g talks then c r room u v w m m' moved frame rest bytes h few e fits new k =
@@ -100,8 +102,10 @@ pushed-one {W'} g talks then c r room u v w m m' moved frame rest bytes h few e 
     (or-true moved)
 
 -- the push of the first message got no reply
-pub push-stops : {W' : Type 0} (g : Grammar) (talks : W' → W' → List ℕ → List ℕ → Bool → Type 0) → TalksThen talks → (c : Courier) (r room : ℕ) (u v w : W') (m : Mailed) (moved : Bool) (frame : List ℕ) (rest : List (List ℕ)) (left : Option Content) (fault : Broken) →
-    IsUnderway g talks c r u v m (pushing r room) moved → r < g.roles → queue_at m r ≡ frame ∷ rest → length frame ≤ room → IsBrokenOff g request.Push frame (talks v w) left fault → BreaksOff g c r (talks u w) left fault
+pub push-stops : {W' : Type 0} (g : Grammar) (talks : W' → W' → List ℕ → List ℕ → Bool → Type 0) → TalksThen talks → (c : Courier) (r room : ℕ)
+    (u v w : W') (m : Mailed) (moved : Bool) (frame : List ℕ) (rest : List (List ℕ)) (left : Option Content) (fault : Broken) →
+    IsUnderway g talks c r u v m (pushing r room) moved → r < g.roles → queue_at m r ≡ frame ∷ rest → length frame ≤ room → IsBrokenOff g request.Push
+    frame (talks v w) left fault → BreaksOff g c r (talks u w) left fault
 push-stops {W'} g talks then c r room u v w m moved frame rest left fault h few e fits k =
     let first = first-of g m h.now r frame rest h.shows few e in
     let long : size (Push first.message) ≡ length frame = ap length first.spelled in
@@ -114,7 +118,8 @@ pub kept-all : (m m' : Mailed) (r : ℕ) → m' ≡ with_queue m r (queue_at m' 
 kept-all m m' r e same = e ∙ ap (λ q. with_queue m r q) same ∙ ap (λ qs. let k : Mailed = record { queues = qs; places = m.places } in k) (set-get_or m.queues r [])
 
 -- the first message that waits has no room
-pub push-full : {W' : Type 0} (g : Grammar) (talks : W' → W' → List ℕ → List ℕ → Bool → Type 0) (c : Courier) (r room : ℕ) (u v : W') (m m' : Mailed) (moved : Bool) (frame : List ℕ) (rest : List (List ℕ)) →
+pub push-full : {W' : Type 0} (g : Grammar) (talks : W' → W' → List ℕ → List ℕ → Bool → Type 0) (c : Courier) (r room : ℕ) (u v : W') (m m' : Mailed)
+    (moved : Bool) (frame : List ℕ) (rest : List (List ℕ)) →
     IsUnderway g talks c r u v m (pushing r room) moved → r < g.roles → m' ≡ m → queue_at m r ≡ frame ∷ rest → room < length frame → IsUnderway g talks c r u v m' (pulling r 0 turn_messages) moved
 push-full {W'} g talks c r room u v m m' moved frame rest h few same e lt =
     let first = first-of g m h.now r frame rest h.shows few e in
@@ -134,7 +139,8 @@ place-is : (g : Grammar) (m : Mailed) (now : Courier) (r : ℕ) → Shows g m no
 place-is g m now r s = ap (λ xs. slice_index xs r) s.places ∙ sym (get-is 0 now.places r)
 
 -- a message came, and waits
-pub pulled-one : {W' : Type 0} (g : Grammar) (talks : W' → W' → List ℕ → List ℕ → Bool → Type 0) → TalksThen talks → (c : Courier) (r room left : ℕ) (u v w : W') (m m' : Mailed) (moved : Bool) (letter : Letter) →
+pub pulled-one : {W' : Type 0} (g : Grammar) (talks : W' → W' → List ℕ → List ℕ → Bool → Type 0) → TalksThen talks → (c : Courier) (r room left : ℕ)
+    (u v w : W') (m m' : Mailed) (moved : Bool) (letter : Letter) →
     IsUnderway g talks c r u v m (pulling r room left) moved → r < g.roles → 0 < left → 13 ≤ room → place_at m r < 2 ^ 64 → IsPulled g (place_at m r) (talks v w) (Some letter) →
     m'.queues ≡ slice_set m.queues letter.to (queue_at m letter.to ++ letter.frame ∷ []) → m'.places ≡ slice_set m.places r (place_at m r + 1) →
     IsUnderway g talks c r u w m' (pulling r (room - 13) (left - 1)) true
@@ -162,15 +168,19 @@ pulled-none {W'} g talks then c r room left u v w m moved h some fits place (byt
     (or-false moved)
 
 -- a pull got no reply
-pub pull-stops : {W' : Type 0} (g : Grammar) (talks : W' → W' → List ℕ → List ℕ → Bool → Type 0) → TalksThen talks → (c : Courier) (r room left : ℕ) (u v w : W') (m : Mailed) (moved : Bool) (rest : Option Content) (fault : Broken) →
-    IsUnderway g talks c r u v m (pulling r room left) moved → r < g.roles → 0 < left → 13 ≤ room → IsBrokenOff g request.Pull (spelled_frame (Pull (place_at m r))) (talks v w) rest fault → BreaksOff g c r (talks u w) rest fault
+pub pull-stops : {W' : Type 0} (g : Grammar) (talks : W' → W' → List ℕ → List ℕ → Bool → Type 0) → TalksThen talks → (c : Courier) (r room left : ℕ)
+    (u v w : W') (m : Mailed) (moved : Bool) (rest : Option Content) (fault : Broken) →
+    IsUnderway g talks c r u v m (pulling r room left) moved → r < g.roles → 0 < left → 13 ≤ room → IsBrokenOff g request.Pull
+    (spelled_frame (Pull (place_at m r))) (talks v w) rest fault → BreaksOff g c r (talks u w) rest fault
 pull-stops {W'} g talks then c r room left u v w m moved rest fault h few some fits k =
     stops g talks then c r u v w m (pulling r room left) moved h few (Pull (get 0 h.now.places r)) [] rest fault (first-pull r room left h.now some fits)
     (subst (λ n. IsBrokenOff g request.Pull (spelled_frame (Pull n)) (talks v w) rest fault) (place-is g m h.now r h.shows) k)
 
 -- a message came, and there was no memory for it
-pub pull-forgets : {W' : Type 0} (g : Grammar) (talks : W' → W' → List ℕ → List ℕ → Bool → Type 0) → TalksThen talks → (c : Courier) (r room left : ℕ) (u v w : W') (m : Mailed) (moved : Bool) (rest : Option Content) (letter : Letter) →
-    IsUnderway g talks c r u v m (pulling r room left) moved → r < g.roles → 0 < left → 13 ≤ room → IsPulled g (place_at m r) (talks v w) (Some letter) → BreaksOff g c r (talks u w) rest broken.NoMemory
+pub pull-forgets : {W' : Type 0} (g : Grammar) (talks : W' → W' → List ℕ → List ℕ → Bool → Type 0) → TalksThen talks → (c : Courier) (r room left : ℕ)
+    (u v w : W') (m : Mailed) (moved : Bool) (rest : Option Content) (letter : Letter) →
+    IsUnderway g talks c r u v m (pulling r room left) moved → r < g.roles → 0 < left → 13 ≤ room → IsPulled g (place_at m r) (talks v w)
+    (Some letter) → BreaksOff g c r (talks u w) rest broken.NoMemory
 pull-forgets {W'} g talks then c r room left u v w m moved rest letter h few some fits (bytes, a, t, e, k) =
     pull-stops g talks then c r room left u v w m moved rest broken.NoMemory h few some fits
     (record { written = spelled_frame (Pull (place_at m r)); read = bytes; talked = t; part = ([], sym (append-nil (spelled_frame (Pull (place_at m r))))); why = tt })
@@ -182,4 +192,5 @@ pull-over {W'} g talks c r room left u v m moved h lt = said-again g talks c r u
 
 pub pull-spent : {W' : Type 0} (g : Grammar) (talks : W' → W' → List ℕ → List ℕ → Bool → Type 0) (c : Courier) (r room left : ℕ) (u v : W') (m : Mailed) (moved : Bool) →
     IsUnderway g talks c r u v m (pulling r room left) moved → left ≡ 0 → IsUnderway g talks c r u v m ending moved
-pull-spent {W'} g talks c r room left u v m moved h z = said-again g talks c r u v m m (pulling r room left) ending moved h refl (λ ys. ap (λ n. pulling r room n h.now ys) z ∙ none-left r room h.now ys)
+pull-spent {W'} g talks c r room left u v m moved h z = said-again g talks c r u v m m (pulling r room left) ending moved h refl
+    (λ ys. ap (λ n. pulling r room n h.now ys) z ∙ none-left r room h.now ys)

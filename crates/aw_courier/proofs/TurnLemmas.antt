@@ -1,5 +1,6 @@
 -- A turn, one request after the other.
-use Rattle.std.proofs.Common.{◌≡◌, ℕ, suc, ◌+◌, ◌-◌, ◌<◌, ◌≤◌, Bool, true, false, cond, ◌||◌, ◌⊎◌, List, [], ◌∷◌, ◌++◌, length, Option, refl, sym, ap, subst, ◌∙◌, arith, inl, inr, append_assoc, append-nil}
+use Rattle.std.proofs.Common.{◌≡◌, ℕ, suc, ◌+◌, ◌-◌, ◌<◌, ◌≤◌, Bool, true, false, cond, ◌||◌, ◌⊎◌, List, [], ◌∷◌, ◌++◌, length, Option, refl, sym, ap}
+use Rattle.std.proofs.Common.{subst, ◌∙◌, arith, inl, inr, append_assoc, append-nil}
 use Rattle.std.specs.Prelude.{nat_eq, nat_lt, nat_le, slice_index, slice_index_or, slice_set, Ok, ◌&&◌}
 use Rattle.std.proofs.lemmas.Bool.{le-leb, lt-leb, lt-ltb, eqb-true, eq-eqb}
 use Rattle.aw_out.specs.Wires.{Content}
@@ -47,8 +48,10 @@ at-first {W'} g talks c r u m t s = record {
 }
 
 -- one more request got its reply
-pub one-more : {W' : Type 0} (g : Grammar) (talks : W' → W' → List ℕ → List ℕ → Bool → Type 0) → TalksThen talks → (c : Courier) (r : ℕ) (u v w : W') (m m' : Mailed) (rest rest' : Courier → List Heard → List Frame) (moved moved' : Bool)
-    (h : IsUnderway g talks c r u v m rest moved) (f : Frame) (x : Heard) (b : List ℕ) → talks v w b (spelled_frame f) false → reply g (request_of f) b ≡ Ok (x, []) → PlaceFits f → IsReplyTo size g f x →
+pub one-more : {W' : Type 0} (g : Grammar) (talks : W' → W' → List ℕ → List ℕ → Bool → Type 0) → TalksThen talks → (c : Courier) (r : ℕ) (u v w : W')
+    (m m' : Mailed) (rest rest' : Courier → List Heard → List Frame) (moved moved' : Bool)
+    (h : IsUnderway g talks c r u v m rest moved) (f : Frame) (x : Heard) (b : List ℕ) → talks v w b (spelled_frame f) false →
+    reply g (request_of f) b ≡ Ok (x, []) → PlaceFits f → IsReplyTo size g f x →
     Shows g m' (note r f x h.now) → ((ys : List Heard) → rest h.now (x ∷ ys) ≡ f ∷ rest' (note r f x h.now) ys) → moved' ≡ (moved || nat_lt 0 (move f x)) → IsUnderway g talks c r u w m' rest' moved'
 one-more {W'} g talks then c r u v w m m' rest rest' moved moved' h f x b t e place fit s next more = record {
   asked = h.asked ++ f ∷ [];
@@ -59,14 +62,16 @@ one-more {W'} g talks then c r u v w m m' rest rest' moved moved' h f x b t e pl
   are = heard-one g h.asked h.heard h.replies f x b h.are e;
   places = each_push PlaceFits h.asked f h.places place;
   fit = replies-one g h.asked h.heard f x h.fit fit;
-  order = λ ys. ap (λ xs. requests size c r xs) (append_assoc h.heard (x ∷ []) ys) ∙ h.order (x ∷ ys) ∙ ap (λ fs. h.asked ++ fs) (next ys) ∙ sym (append_assoc h.asked (f ∷ []) (rest' (note r f x h.now) ys));
+  order = λ ys. ap (λ xs. requests size c r xs) (append_assoc h.heard (x ∷ []) ys) ∙ h.order (x ∷ ys) ∙ ap (λ fs. h.asked ++ fs) (next ys)
+      ∙ sym (append_assoc h.asked (f ∷ []) (rest' (note r f x h.now) ys));
   now_is = ap (λ d. note r f x d) h.now_is ∙ sym (noted-one g r h.asked h.heard f x c h.fit);
   moved_is = more ∙ ap (λ t. t || nat_lt 0 (move f x)) h.moved_is ∙ lt-sum (moves h.asked h.heard) (move f x) ∙ ap (λ n. nat_lt 0 n) (sym (moves-one g h.asked h.heard f x h.fit));
   shows = s;
 }
 
 -- the same turn, with the requests to come said in another way
-pub said-again : {W' : Type 0} (g : Grammar) (talks : W' → W' → List ℕ → List ℕ → Bool → Type 0) (c : Courier) (r : ℕ) (u v : W') (m m' : Mailed) (rest rest' : Courier → List Heard → List Frame) (moved : Bool)
+pub said-again : {W' : Type 0} (g : Grammar) (talks : W' → W' → List ℕ → List ℕ → Bool → Type 0) (c : Courier) (r : ℕ) (u v : W') (m m' : Mailed)
+    (rest rest' : Courier → List Heard → List Frame) (moved : Bool)
     (h : IsUnderway g talks c r u v m rest moved) → m' ≡ m → ((ys : List Heard) → rest h.now ys ≡ rest' h.now ys) → IsUnderway g talks c r u v m' rest' moved
 said-again {W'} g talks c r u v m m' rest rest' moved h e same = record {
   asked = h.asked;
@@ -91,7 +96,8 @@ why-stopped g all asked f later written read left broken.Reply e h = (f, later, 
 why-stopped g all asked f later written read left broken.NoMemory e h = tt
 
 -- the next request got no reply
-pub stops : {W' : Type 0} (g : Grammar) (talks : W' → W' → List ℕ → List ℕ → Bool → Type 0) → TalksThen talks → (c : Courier) (r : ℕ) (u v w : W') (m : Mailed) (rest : Courier → List Heard → List Frame) (moved : Bool)
+pub stops : {W' : Type 0} (g : Grammar) (talks : W' → W' → List ℕ → List ℕ → Bool → Type 0) → TalksThen talks → (c : Courier) (r : ℕ) (u v w : W')
+    (m : Mailed) (rest : Courier → List Heard → List Frame) (moved : Bool)
     (h : IsUnderway g talks c r u v m rest moved) → r < g.roles → (f : Frame) (later : List Frame) (left : Option Content) (fault : Broken) → rest h.now [] ≡ f ∷ later →
     IsBrokenOff g (request_of f) (spelled_frame f) (talks v w) left fault → BreaksOff g c r (talks u w) left fault
 stops {W'} g talks then c r u v w m rest moved h few f later left fault next k =
@@ -152,7 +158,8 @@ pub none-left : (r room : ℕ) (now : Courier) (ys : List Heard) → pulling r r
 none-left r room now ys = no-pull room (get 0 now.places r) 0 ys refl
 
 -- the first message that waits has no room
-pub too-long : (r room : ℕ) (now : Courier) (m : Message) (ms : List Message) (ys : List Heard) → for_role r now.waiting ≡ m ∷ ms → room < size (Push m) → pushing r room now ys ≡ pulling r 0 turn_messages now ys
+pub too-long : (r room : ℕ) (now : Courier) (m : Message) (ms : List Message) (ys : List Heard) → for_role r now.waiting ≡ m ∷ ms →
+    room < size (Push m) → pushing r room now ys ≡ pulling r 0 turn_messages now ys
 too-long r room now m ms ys e lt =
     ap (λ ws. pushes size room ws (get 0 now.places r) ys) e
     ∙ ap (λ b. asks b (Push m) (pushes size (room - size (Push m)) ms (get 0 now.places r) (behind ys))) (lt-leb (size (Push m)) room lt)
@@ -163,14 +170,16 @@ pub all-pushed : (r room : ℕ) (now : Courier) (ys : List Heard) → for_role r
 all-pushed r room now ys e = ap (λ ws. pushes size room ws (get 0 now.places r) ys) e
 
 -- the courier once the first message that waits was pushed
-pub shows-push : (g : Grammar) (m : Mailed) (now : Courier) (r : ℕ) (rest : List (List ℕ)) (a : Message) (ms : List Message) (x : Heard) → r < g.roles → Shows g m now → for_role r now.waiting ≡ a ∷ ms → pushed_frames ms ≡ rest →
+pub shows-push : (g : Grammar) (m : Mailed) (now : Courier) (r : ℕ) (rest : List (List ℕ)) (a : Message) (ms : List Message) (x : Heard) →
+    r < g.roles → Shows g m now → for_role r now.waiting ≡ a ∷ ms → pushed_frames ms ≡ rest →
     Shows g (with_queue m r rest) (note r (Push a) x now)
 shows-push g m now r rest a ms x few s e p = record {
   many = length-set m.queues r rest ∙ s.many;
   places = s.places;
   all = s.all;
   queues = λ b lt. elim (same_or_not r b) [
-    | inl i ↦ (let here : slice_index_or (slice_set m.queues r rest) b [] ≡ rest = subst (λ k. slice_index_or (slice_set m.queues r rest) k [] ≡ rest) i (index-set [] m.queues r rest (omega (arith, few, s.many))) in
+    | inl i ↦ (let here : slice_index_or (slice_set m.queues r rest) b [] ≡ rest = subst (λ k. slice_index_or (slice_set m.queues r rest) k [] ≡ rest)
+        i (index-set [] m.queues r rest (omega (arith, few, s.many))) in
         here ∙ sym p ∙ ap pushed_frames (sym (subst (λ k. for_role k (without r now.waiting) ≡ ms) i (rest-waits r now.waiting ms a e))))
     | inr n ↦ index-set_other [] m.queues r b rest n ∙ s.queues b lt ∙ ap pushed_frames (sym (others-wait r b now.waiting n))
   ];

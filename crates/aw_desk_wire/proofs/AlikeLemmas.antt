@@ -54,7 +54,8 @@ module _
         )
 
     -- frames of one role
-    asked-as : (role : ℕ) (ds es : List D) (ps : List P) (fs : List Frame) (xs : List (List ℕ)) → AllAre R ds ps → AreAsked A role ds es fs xs → (qs : List P) × AreAsked B role ps qs fs xs × AllAre R es qs
+    asked-as : (role : ℕ) (ds es : List D) (ps : List P) (fs : List Frame) (xs : List (List ℕ)) → AllAre R ds ps → AreAsked A role ds es fs xs →
+        (qs : List P) × AreAsked B role ps qs fs xs × AllAre R es qs
     asked-as role ds es ps fs xs r h = asked-of role ds es ps (slice_get ds role) fs xs refl r h
 
     -- sessions that are over

@@ -50,13 +50,15 @@ module _
         (next.0, answered-then answers d h.0 next.0 fs gs xs ys h.1 next.1, next.2 ∙ ap (λ (zs : List D). slice_set zs role next.0) h.2 ∙ set-twice ds role h.0 next.0)
 
     -- some were asked, and then others
-    pub asked-then : (ds es us : List D) (fs gs : List Frame) (xs ys : List (List ℕ)) → AreAsked answers role ds es fs xs → AreAsked answers role es us gs ys → AreAsked answers role ds us (fs ++ gs) (xs ++ ys)
+    pub asked-then : (ds es us : List D) (fs gs : List Frame) (xs ys : List (List ℕ)) → AreAsked answers role ds es fs xs →
+        AreAsked answers role es us gs ys → AreAsked answers role ds us (fs ++ gs) (xs ++ ys)
     asked-then ds es us fs gs xs ys h k = then-of ds es us (slice_get ds role) fs gs xs ys refl h k
 
     -- ---- one frame
 
     -- where there is a desk
-    pub asks-desk : (ds : List D) (d e : D) (f : Frame) (reply old new : List ℕ) → slice_get ds role ≡ Some d → answers d f reply e → new ≡ old ++ reply → IsAsked answers role ds (slice_set ds role e) f old new
+    pub asks-desk : (ds : List D) (d e : D) (f : Frame) (reply old new : List ℕ) → slice_get ds role ≡ Some d → answers d f reply e →
+        new ≡ old ++ reply → IsAsked answers role ds (slice_set ds role e) f old new
     asks-desk ds d e f reply old new at h added = record {
       replies = reply ∷ [];
       asked = subst (λ (o : Option D). AskedOf answers role ds o (f ∷ []) (reply ∷ []) (slice_set ds role e)) (sym at) (e, (e, h, refl), refl);
@@ -78,7 +80,8 @@ module _
     stretch-none ds from = record { frames = []; replies = []; yields = refl; asked = asked-none ds; text_is = refl }
 
     -- one more was asked
-    pub stretch-one : (ds es us : List D) (from mid to : Stream) (text more : List ℕ) (f : Frame) → IsStretch answers role ds es from mid text → frame mid.bytes ≡ Ok (f, to.bytes) → IsAsked answers role es us f text more →
+    pub stretch-one : (ds es us : List D) (from mid to : Stream) (text more : List ℕ) (f : Frame) → IsStretch answers role ds es from mid text →
+        frame mid.bytes ≡ Ok (f, to.bytes) → IsAsked answers role es us f text more →
         IsStretch answers role ds us from to more
     stretch-one ds es us from mid to text more f old e one = record {
       frames = old.frames ++ f ∷ [];

@@ -36,7 +36,8 @@ pub reads : (cs : Calls) (answer : Got) (most : ℕ) (buf : List ℕ) → is_som
 reads cs answer most buf some = there cs.over cs.last cs.is_open answer some
   where
     there : (over : List Session) (last : Option Session) (is_open : _) (answer : Got) → is_some last ≡ true → answer ≡ answer_of (left_in last) most → given answer buf ≡ given answer (left_in last) →
-        ReadsInSession answer buf (content_of (record { over = over; last = last; is_open = is_open })) (content_of (changed (has_read answer) (record { over = over; last = last; is_open = is_open })))
+        ReadsInSession answer buf (content_of (record { over = over; last = last; is_open = is_open }))
+        (content_of (changed (has_read answer) (record { over = over; last = last; is_open = is_open })))
     there over None is_open answer some e same = absurd (cc some)
     there over (Some c) is_open (Read n) some e same = (
       drop n c.left,
@@ -53,7 +54,8 @@ pub writes : (cs : Calls) (bytes replies : List ℕ) → is_some cs.last ≡ tru
 writes cs bytes replies some = there cs.over cs.last cs.is_open some
   where
     there : (over : List Session) (last : Option Session) (is_open : _) → is_some last ≡ true →
-        WritesInSession (put.Took (length bytes)) bytes (content_of (record { over = over; last = last; is_open = is_open })) (content_of (changed (after_write bytes replies) (record { over = over; last = last; is_open = is_open })))
+        WritesInSession (put.Took (length bytes)) bytes (content_of (record { over = over; last = last; is_open = is_open }))
+        (content_of (changed (after_write bytes replies) (record { over = over; last = last; is_open = is_open })))
     there over None is_open some = absurd (cc some)
     there over (Some c) is_open some = (
       replies,
@@ -66,7 +68,8 @@ pub fails : (cs : Calls) (bytes : List ℕ) → is_some cs.last ≡ true → Wri
 fails cs bytes some = there cs.over cs.last cs.is_open some
   where
     there : (over : List Session) (last : Option Session) (is_open : _) → is_some last ≡ true →
-        WritesInSession put.Failed bytes (content_of (record { over = over; last = last; is_open = is_open })) (content_of (changed after_fault (record { over = over; last = last; is_open = is_open })))
+        WritesInSession put.Failed bytes (content_of (record { over = over; last = last; is_open = is_open }))
+        (content_of (changed after_fault (record { over = over; last = last; is_open = is_open })))
     there over None is_open some = absurd (cc some)
     there over (Some c) is_open some =
         let same = changed-last after_fault over c (after_fault c) refl in

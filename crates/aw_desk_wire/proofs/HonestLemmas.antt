@@ -30,10 +30,23 @@ module _
     ended-last ms es kept over None h k = subst (λ (zs : List Session). AreHonest answers ds es zs) (sym (append-nil over)) (subst (λ (zs : List D). AreHonest answers ds zs over) (sym k) h)
     ended-last ms es kept over (Some c) h k =
         one-more ds ms es over c h
-        (record { frames = k.frames; replies = k.replies; bad = kept.failed; later = c.left; splits = record { rest = kept.bytes; yields = k.yields; ended = k.ended }; asked = k.asked; read = k.read })
+        (record {
+          frames = k.frames;
+          replies = k.replies;
+          bad = kept.failed;
+          later = c.left;
+          splits = record {
+            rest = kept.bytes;
+            yields = k.yields;
+            ended = k.ended;
+          };
+          asked = k.asked;
+          read = k.read;
+        })
 
     -- a session is open, with a new reader
-    pub honest-opened : (role : ℕ) (es : List D) (kept new : Stream) (cs : Calls) → new ≡ record { bytes = []; failed = false } → WasHonest answers ds es kept cs → WasHonest answers ds es new (opened role cs)
+    pub honest-opened : (role : ℕ) (es : List D) (kept new : Stream) (cs : Calls) → new ≡ record { bytes = []; failed = false } →
+        WasHonest answers ds es kept cs → WasHonest answers ds es new (opened role cs)
     honest-opened role es kept new cs e h = record {
       between = es;
       over = ended-last h.between es kept cs.over cs.last h.over h.last;
@@ -48,10 +61,13 @@ module _
     }
 
     -- bytes were written, and all whole frames were asked
-    pub honest-written : (es us : List D) (kept to : Stream) (bytes : List ℕ) (cs new : Calls) → is_some cs.last ≡ true → WasHonest answers ds es kept cs → IsWritten answers es us kept to cs new bytes → WasHonest answers ds us to new
-    honest-written es us kept to bytes cs new some h w = subst (λ (x : Calls). WasHonest answers ds us to x) (sym w.told) (record { between = h.between; over = h.over; last = there cs.last some h.last w.answered })
+    pub honest-written : (es us : List D) (kept to : Stream) (bytes : List ℕ) (cs new : Calls) → is_some cs.last ≡ true → WasHonest answers ds es kept
+        cs → IsWritten answers es us kept to cs new bytes → WasHonest answers ds us to new
+    honest-written es us kept to bytes cs new some h w = subst (λ (x : Calls). WasHonest answers ds us to x) (sym w.told)
+        (record { between = h.between; over = h.over; last = there cs.last some h.last w.answered })
       where
-        there : (last : Option Session) → is_some last ≡ true → LastIs answers h.between es kept last → IsAnswered answers (role_in last) es us (record kept { bytes = kept.bytes ++ bytes }) to w.replies →
+        there : (last : Option Session) → is_some last ≡ true → LastIs answers h.between es kept last → IsAnswered answers (role_in last) es us
+            (record kept { bytes = kept.bytes ++ bytes }) to w.replies →
             LastIs answers h.between us to (changed (after_write bytes w.replies) (record { over = []; last = last; is_open = true })).last
         there None some k b = absurd (cc some)
         there (Some c) some k b =
@@ -62,5 +78,6 @@ module _
               yields = yields-then (c.written ++ bytes) k.frames s.frames (kept.bytes ++ bytes) to.bytes (yields_more c.written k.frames kept.bytes bytes k.yields) s.yields;
               ended = b.ended (fed_sound kept (record kept { bytes = kept.bytes ++ bytes }) bytes k.ended refl);
               asked = asked-then D answers c.role h.between es us k.frames s.frames k.replies s.replies k.asked s.asked;
-              read = joined-append k.replies s.replies ∙ ap (λ (t : List ℕ). t ++ joined s.replies) k.read ∙ ap (λ (t : List ℕ). (c.read ++ c.left) ++ t) (sym s.text_is) ∙ append_assoc c.read c.left w.replies;
+              read = joined-append k.replies s.replies ∙ ap (λ (t : List ℕ). t ++ joined s.replies) k.read
+                  ∙ ap (λ (t : List ℕ). (c.read ++ c.left) ++ t) (sym s.text_is) ∙ append_assoc c.read c.left w.replies;
             }

@@ -19,7 +19,8 @@ module _
     (step : (o p : O) (f : Frame) (x : List ℕ) → A o f x p → AnswersAs (rules_of (grammar o) (typed o)) f (shows o) (shows p) x × (grammar p ≡ grammar o) × (typed p ≡ typed o))
     (r : Rules)
   where
-    office-sim : (o p : O) (s : Site) (f : Frame) (x : List ℕ) → A o f x p → shows o s × (rules_of (grammar o) (typed o) ≡ r) → (t : Site) × answers r s f x t × (shows p t × (rules_of (grammar p) (typed p) ≡ r))
+    office-sim : (o p : O) (s : Site) (f : Frame) (x : List ℕ) → A o f x p → shows o s × (rules_of (grammar o) (typed o) ≡ r) → (t : Site)
+        × answers r s f x t × (shows p t × (rules_of (grammar p) (typed p) ≡ r))
     office-sim o p s f x a k =
         let all = step o p f x a in
         let h = subst (λ (q : Rules). AnswersAs q f (shows o) (shows p) x) k.1 all.0 s k.0 in

@@ -75,7 +75,8 @@ module _
       carries-as rounds (Ok RoundsSpent) h = spent-as rounds h
       carries-as rounds (Err e) h = tt
 
-      pub means-as : (w : Words) (rounds : ℕ) (r : Result Carried CarryFault) → IfOk r (MeansOverHonest w g content faults failed_openings rounds u v) → IfOk r (MeansOverHonest w g content' faults' failed_openings' rounds x y)
+      pub means-as : (w : Words) (rounds : ℕ) (r : Result Carried CarryFault) → IfOk r (MeansOverHonest w g content faults failed_openings rounds u
+          v) → IfOk r (MeansOverHonest w g content' faults' failed_openings' rounds x y)
       means-as w rounds (Ok Quiet) h = record { quiet = quiet-as rounds h.quiet; world = h.world }
       means-as w rounds (Ok RoundsSpent) h = record { spent = spent-as rounds h.spent; world = h.world }
       means-as w rounds (Err e) h = tt

@@ -21,7 +21,8 @@ use Rattle.aw_desk_wire.specs.Since.{NoneFailed, with_over, HonestSince}
 use Rattle.aw_desk_wire.proofs.HonestLemmas.{ended-last, honest-opened, honest-written}
 
 -- where none failed after a change that lets failures stand, none did before
-none-before : (f : Session → Session) → ((x : Session) → (f x).failed ≡ x.failed) → (xs : List Session) (last : Option Session) → NoneFailed (xs ++ option_to_list (option_map f last)) → NoneFailed (xs ++ option_to_list last)
+none-before : (f : Session → Session) → ((x : Session) → (f x).failed ≡ x.failed) → (xs : List Session) (last : Option Session) →
+    NoneFailed (xs ++ option_to_list (option_map f last)) → NoneFailed (xs ++ option_to_list last)
 none-before f same xs None n = n
 none-before f same xs (Some x) n =
     let P : Session → Type 0 = λ (y : Session). y.failed ≡ false in
@@ -50,7 +51,8 @@ module _
     since-closed ds kept cs (inr (xs, o, h)) = inr (xs, o, λ n. let k = h n in record { between = k.between; over = k.over; last = k.last })
 
     -- a session was opened
-    since-opened : (role : ℕ) (ds : List D) (kept new : Stream) (cs : Calls) → new ≡ record { bytes = []; failed = false } → HonestSince answers first passed ds kept cs → HonestSince answers first passed ds new (opened role cs)
+    since-opened : (role : ℕ) (ds : List D) (kept new : Stream) (cs : Calls) → new ≡ record { bytes = []; failed = false } → HonestSince answers first
+        passed ds kept cs → HonestSince answers first passed ds new (opened role cs)
     since-opened role ds kept new cs e (inl (o, p, same)) =
         inr (
           [],
@@ -71,7 +73,9 @@ module _
     -- a role was dialed
     pub since-dialed : (result : Dialed) (role : ℕ) (ds : List D) (kept : Stream) (old new : Calls) → (result ≡ Opened → new ≡ opened role old) → (result ≡ Failed → new ≡ closed old) →
         HonestSince answers first passed ds kept old → HonestSince answers first passed ds (reader_after result kept) new
-    since-dialed Opened role ds kept old new o f h = subst (λ (cs : Calls). HonestSince answers first passed ds (record { bytes = []; failed = false }) cs) (sym (o refl)) (since-opened role ds kept _ old refl h)
+    since-dialed Opened role ds kept old new o f h =
+        subst (λ (cs : Calls). HonestSince answers first passed ds (record { bytes = []; failed = false }) cs) (sym (o refl))
+        (since-opened role ds kept _ old refl h)
     since-dialed Failed role ds kept old new o f h = subst (λ (cs : Calls). HonestSince answers first passed ds kept cs) (sym (f refl)) (since-closed ds kept old h)
 
     -- some of what is left in the open session was read
@@ -86,13 +90,15 @@ module _
       read = k.read ∙ ap (λ (t : List ℕ). x.read ++ t) (sym (all-of answer x.left)) ∙ sym (append_assoc x.read (given answer x.left) (left_after answer x.left));
     }
 
-    pub since-read : (answer : Got) (ds : List D) (kept : Stream) (cs : Calls) → cs.is_open ≡ true → HonestSince answers first passed ds kept cs → HonestSince answers first passed ds kept (changed (has_read answer) cs)
+    pub since-read : (answer : Got) (ds : List D) (kept : Stream) (cs : Calls) → cs.is_open ≡ true → HonestSince answers first passed ds kept cs →
+        HonestSince answers first passed ds kept (changed (has_read answer) cs)
     since-read answer ds kept cs is (inl (o, p, e)) = absurd (let no : true ≡ false = sym is ∙ o in cc no)
     since-read answer ds kept cs is (inr (xs, o, h)) =
         inr (xs, o, λ n. let k = h (none-before (has_read answer) (λ x. refl) xs cs.last n) in record { between = k.between; over = k.over; last = last-read k.between ds kept answer cs.last k.last })
 
     -- bytes were written in the open session
-    since-written : (ds es : List D) (kept to : Stream) (bytes : List ℕ) (old new : Calls) → is_some old.last ≡ true → old.is_open ≡ true → HonestSince answers first passed ds kept old → IsWritten answers ds es kept to old new bytes →
+    since-written : (ds es : List D) (kept to : Stream) (bytes : List ℕ) (old new : Calls) → is_some old.last ≡ true → old.is_open ≡ true →
+        HonestSince answers first passed ds kept old → IsWritten answers ds es kept to old new bytes →
         HonestSince answers first passed es to new
     since-written ds es kept to bytes old new some is (inl (o, p, e)) w = absurd (let no : true ≡ false = sym is ∙ o in cc no)
     since-written ds es kept to bytes old new some is (inr (xs, o, h)) w =
@@ -106,13 +112,15 @@ module _
         )
 
     -- a write failed in it
-    since-failed : (ds es : List D) (kept to : Stream) (old new : Calls) → is_some old.last ≡ true → old.is_open ≡ true → HonestSince answers first passed ds kept old → new ≡ changed after_fault old → HonestSince answers first passed es to new
+    since-failed : (ds es : List D) (kept to : Stream) (old new : Calls) → is_some old.last ≡ true → old.is_open ≡ true → HonestSince answers first
+        passed ds kept old → new ≡ changed after_fault old → HonestSince answers first passed es to new
     since-failed ds es kept to old new some is (inl (o, p, e)) w = absurd (let no : true ≡ false = sym is ∙ o in cc no)
     since-failed ds es kept to old new some is (inr (xs, o, h)) w =
         inr (xs, ap (λ (cs : Calls). cs.over) w ∙ o, λ n. absurd (one-failed xs old.last some (subst (λ (cs : Calls). NoneFailed (xs ++ option_to_list cs.last)) w n)))
 
     -- a write
-    pub since-write : (result : Put) (ds es : List D) (kept to : Stream) (bytes : List ℕ) (old new : Calls) → is_some old.last ≡ true → old.is_open ≡ true → (result ≢ put.Failed → IsWritten answers ds es kept to old new bytes) →
+    pub since-write : (result : Put) (ds es : List D) (kept to : Stream) (bytes : List ℕ) (old new : Calls) → is_some old.last ≡ true →
+        old.is_open ≡ true → (result ≢ put.Failed → IsWritten answers ds es kept to old new bytes) →
         (result ≡ put.Failed → new ≡ changed after_fault old) → HonestSince answers first passed ds kept old → HonestSince answers first passed es to new
     since-write (put.Took n) ds es kept to bytes old new some is w f h = since-written ds es kept to bytes old new some is h (w (λ e. absurd (cc e)))
     since-write put.Failed ds es kept to bytes old new some is w f h = since-failed ds es kept to old new some is h (f refl)
@@ -128,7 +136,8 @@ module _
     since-none kept cs p = inl (refl, p, refl)
 
     -- these are all sessions since, and no call failed
-    pub since-all : (ds : List D) (kept : Stream) (cs : Calls) (xs : List Session) → passed_in cs ≡ passed ++ xs → NoneFailed xs → HonestSince answers first passed ds kept cs → AreHonest answers first ds xs
+    pub since-all : (ds : List D) (kept : Stream) (cs : Calls) (xs : List Session) → passed_in cs ≡ passed ++ xs → NoneFailed xs →
+        HonestSince answers first passed ds kept cs → AreHonest answers first ds xs
     since-all ds kept cs xs p n (inl (o, q, e)) =
         let none : [] ≡ xs = cancel passed [] xs (append-nil passed ∙ sym q ∙ p) in
         subst (λ (zs : List Session). AreHonest answers first ds zs) none e

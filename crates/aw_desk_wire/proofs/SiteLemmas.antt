@@ -80,12 +80,14 @@ none-later (t ∷ ts) = alone-none ts
 
 -- ---- the sites that offices show
 
-office-turns : (r : Rules) (os us : List Office) (ss : List Site) (xs : List W.Session) → AllAre (ShowsBy r) os ss → AreHonest OfficeAnswers os us xs → (zs : List Site) × AreHonest (answers r) ss zs xs × AllAre (ShowsBy r) us zs
+office-turns : (r : Rules) (os us : List Office) (ss : List Site) (xs : List W.Session) → AllAre (ShowsBy r) os ss → AreHonest OfficeAnswers os us
+    xs → (zs : List Site) × AreHonest (answers r) ss zs xs × AllAre (ShowsBy r) us zs
 office-turns r = offices-over Office (λ o s. IsShown _ o.site s) (λ o. o.site.space.accepted.now.grammar) (λ o. o.typed.now) OfficeAnswers (λ o p f x a. a) r
 
 -- where the courier answered that all is quiet
 quiet-then : (r : Rules) (before : List (List Turn)) (last : List Turn) → WorldIsHonest r → QuietOverHonest r.words r.grammar before last → GrammarSized r.grammar →
-    AreTurns size r.grammar (new_courier r.grammar) (sessions_of (flat before ++ last)) → Each (λ (t : Turn). t.session.role < r.grammar.roles) (flat before ++ last) → Each (IsHeard r.grammar) (flat before ++ last) →
+    AreTurns size r.grammar (new_courier r.grammar) (sessions_of (flat before ++ last)) → Each (λ (t : Turn). t.session.role < r.grammar.roles)
+    (flat before ++ last) → Each (IsHeard r.grammar) (flat before ++ last) →
     (os us : List Office) → AreHonest OfficeAnswers os us (map told_as (flat before ++ last)) →
     (loads : Bool) (es : List Move) → Each (MayCome r.grammar) es → Each MoveSized es → AllAre (ShowsBy r) os (world_after r.grammar loads es).sites → IsQuietThen r loads es (flat before ++ last) us
 quiet-then r before last world over sized turns roles heard os us answered loads es ok moves shown =
@@ -120,18 +122,21 @@ spent-then r before made world over sized turns roles heard os us answered loads
     let same = flat-alone before in
     record {
       honest = h.0;
-      few = over loads es ok moves (map (map alone) before) (backs before) (subst (λ vs. Each C.NoChoice (map visit_of vs)) same (alone-none (flat before))) (subst (λ vs. IsHonest r.words g ss vs) same h.0);
+      few = over loads es ok moves (map (map alone) before) (backs before) (subst (λ vs. Each C.NoChoice (map visit_of vs)) same
+          (alone-none (flat before))) (subst (λ vs. IsHonest r.words g ss vs) same h.0);
     }
 
 -- what was carried, with what that means for the sites
-pub means-at-sites : (g : declared.Grammar) → InvariantHolds (grammar_of g) → BytesAreHonest (grammar_of g) → GrammarSized (grammar_of g) → {W' : Type 0} (content : W' → Option Content) (faults failed_openings : W' → ℕ) (rounds : ℕ) (u v : W') (os us : List Office) →
+pub means-at-sites : (g : declared.Grammar) → InvariantHolds (grammar_of g) → BytesAreHonest (grammar_of g) → GrammarSized (grammar_of g) →
+    {W' : Type 0} (content : W' → Option Content) (faults failed_openings : W' → ℕ) (rounds : ℕ) (u v : W') (os us : List Office) →
     (r : Result Carried CarryFault) → IfOk r (MeansOverHonest (words_of g) (grammar_of g) content faults failed_openings rounds u v) →
     ((xs : List W.Session) → Both (Follow xs) (content u) (content v) → NoneFailed xs → AreHonest OfficeAnswers os us xs) → IfOk r (MeansAtSites g content faults failed_openings rounds u v os us)
 means-at-sites g holds law sized {W'} content faults failed_openings rounds u v os us (Ok Quiet) q answer =
     let ts = flat q.quiet.before ++ q.quiet.last in
     let answered = answer (map told_as ts) q.quiet.made.told (none-told ts) in
     let G = grammar_of g in
-    let roles = each_append (λ (t : Turn). t.session.role < G.roles) (flat q.quiet.before) q.quiet.last (rounds-roles G q.quiet.before q.quiet.call.each) (round-roles G.roles q.quiet.last 0 G.roles (omega arith) q.quiet.call.one) in
+    let roles = each_append (λ (t : Turn). t.session.role < G.roles) (flat q.quiet.before) q.quiet.last
+    (rounds-roles G q.quiet.before q.quiet.call.each) (round-roles G.roles q.quiet.last 0 G.roles (omega arith) q.quiet.call.one) in
     record {
       quiet = q.quiet;
       answered = answered;
@@ -143,6 +148,7 @@ means-at-sites g holds law sized {W'} content faults failed_openings rounds u v 
     record {
       spent = q.spent;
       answered = answered;
-      world = λ t. spent-then (rules_of g t) q.spent.before rounds (world-honest (rules_of g t) holds law) q.world sized q.spent.made.ordered (rounds-roles (grammar_of g) q.spent.before q.spent.call.each) q.spent.made.heard os us answered;
+      world = λ t. spent-then (rules_of g t) q.spent.before rounds (world-honest (rules_of g t) holds law) q.world sized q.spent.made.ordered
+          (rounds-roles (grammar_of g) q.spent.before q.spent.call.each) q.spent.made.heard os us answered;
     }
 means-at-sites g holds law sized {W'} content faults failed_openings rounds u v os us (Err e) q answer = tt

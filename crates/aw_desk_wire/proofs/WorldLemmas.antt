@@ -57,7 +57,8 @@ all-readable g c (x ∷ ts) t k b = (readable g x.session.asked x.session.heard 
 
 -- ---- honest in bytes
 
-in-bytes : (r : Rules) (ss us : List Site) (c : Courier) (ts : List Turn) → Each (λ (t : Turn). t.session.role < length ss) ts → AreTurns size r.grammar c (sessions_of ts) → Each (IsHeard r.grammar) ts →
+in-bytes : (r : Rules) (ss us : List Site) (c : Courier) (ts : List Turn) → Each (λ (t : Turn). t.session.role < length ss) ts →
+    AreTurns size r.grammar c (sessions_of ts) → Each (IsHeard r.grammar) ts →
     AreHonest (answers r) ss us (map told_as ts) → IsHonestInBytes r.grammar ss (all_alone ts)
 in-bytes r ss us c [] l t k h = tt
 in-bytes r ss us c (x ∷ ts) l t k h = λ asked has.

@@ -71,17 +71,21 @@ pub of-past : (P : Spec → Output → Type 0) (input : List ℕ) → INPUT_LIMI
 unfolding OfAccepted
 of-past P input past = by-input-past (λ s taken loads. IfTyped s (IfAccepted s (P s))) input past
 
-of-faulty : (P : Spec → Output → Type 0) (input : List ℕ) (line : ℕ) (kind : SpecKind) → length input ≤ INPUT_LIMIT → specification (lines_of input) ≡ Faulty line kind → OfAccepted P input (BadSpecification (at_line line (kind_name kind)))
+of-faulty : (P : Spec → Output → Type 0) (input : List ℕ) (line : ℕ) (kind : SpecKind) → length input ≤ INPUT_LIMIT →
+    specification (lines_of input) ≡ Faulty line kind → OfAccepted P input (BadSpecification (at_line line (kind_name kind)))
 unfolding OfAccepted
-of-faulty P input line kind within faulty = by-input-read (λ s taken loads. IfTyped s (IfAccepted s (P s))) input (Faulty line kind) (BadSpecification (at_line line (kind_name kind))) within faulty refl
+of-faulty P input line kind within faulty = by-input-read (λ s taken loads. IfTyped s (IfAccepted s (P s))) input (Faulty line kind)
+    (BadSpecification (at_line line (kind_name kind))) within faulty refl
 
-of-good : (P : Spec → Output → Type 0) (input : List ℕ) (s : Spec) (taken : ℕ) (loads : Bool) (output : Output) → length input ≤ INPUT_LIMIT → specification (lines_of input) ≡ Good s taken loads → IfTyped s (IfAccepted s (P s)) output → OfAccepted P input output
+of-good : (P : Spec → Output → Type 0) (input : List ℕ) (s : Spec) (taken : ℕ) (loads : Bool) (output : Output) → length input ≤ INPUT_LIMIT →
+    specification (lines_of input) ≡ Good s taken loads → IfTyped s (IfAccepted s (P s)) output → OfAccepted P input output
 unfolding OfAccepted
 of-good P input s taken loads output within good holds = by-input-read (λ s taken loads. IfTyped s (IfAccepted s (P s))) input (Good s taken loads) output within good holds
 
 -- ---- the front itself
 -- what stands ready behind acceptance
-ready-accepted : (s : Spec) (writes : Bool) (o : Opened) (g : Grammar) (t : Types) → s.declared ≡ declarations_of g → s.types ≡ t → o.accepted.grammar ≡ g → o.typed.types ≡ t → IsMadeFor (grammar_of g) o.typed →
+ready-accepted : (s : Spec) (writes : Bool) (o : Opened) (g : Grammar) (t : Types) → s.declared ≡ declarations_of g → s.types ≡ t →
+    o.accepted.grammar ≡ g → o.typed.types ≡ t → IsMadeFor (grammar_of g) o.typed →
     HasNoCircle (grammar_of g) (IO (grammar_of g)) → (IsTrue writes → o.text ≡ written s) → IsReady s writes o
 ready-accepted s writes o g t same typed accepted types made sound text = record {
   declared = same ∙ ap declarations_of (sym accepted);
@@ -96,28 +100,34 @@ pub front-circular : (said : Reply) (why : refused.Refused) (s : Spec) (g : Gram
 front-circular said why s g same tells is = refuses-grammar {E = Unit {0}} (Ok said) why s g Nothing same tells is
 
 -- what acceptance said, and the text
-pub front-judged : (judged : Result Accepted Reply) (front : Front) (s : Spec) (writes : Bool) (g : Grammar) (t : Types) (typed : Typed) (text : List ℕ) → s.declared ≡ declarations_of g → s.types ≡ t → typed.types ≡ t → IsMadeFor (grammar_of g) typed →
-    (IsTrue writes → text ≡ written s) → IsJudged g judged → IfOk judged (λ a. front ≡ Ready (record { accepted = a; typed = typed; text = text })) → IfErr judged (λ said. front ≡ Refused said) → ReadyOr (IfAccepted s Nothing) s writes front
+pub front-judged : (judged : Result Accepted Reply) (front : Front) (s : Spec) (writes : Bool) (g : Grammar) (t : Types) (typed : Typed)
+    (text : List ℕ) → s.declared ≡ declarations_of g → s.types ≡ t → typed.types ≡ t → IsMadeFor (grammar_of g) typed →
+    (IsTrue writes → text ≡ written s) → IsJudged g judged → IfOk judged (λ a. front ≡ Ready (record { accepted = a; typed = typed; text = text })) →
+    IfErr judged (λ said. front ≡ Refused said) → ReadyOr (IfAccepted s Nothing) s writes front
 front-judged (Ok a) front s writes g t typed text same known types made written_so said is none =
     subst (ReadyOr (IfAccepted s Nothing) s writes) (sym is) (ready-accepted s writes (record { accepted = a; typed = typed; text = text }) g t same known said.0 types made said.1 written_so)
 front-judged (Err reply) front s writes g t typed text same known types made written_so said none is =
     subst (ReadyOr (IfAccepted s Nothing) s writes) (sym is) (said s same)
 
-pub front-untyped : (said : Reply) (fault : told.TypeFault) (s : Spec) (g : Grammar) → s.declared ≡ declarations_of g → TellsTypes (types_of s.types) (grammar_of g) fault → RefusesTypes (words_of g) fault said → Replies (IfTyped s (IfAccepted s Nothing)) said
+pub front-untyped : (said : Reply) (fault : told.TypeFault) (s : Spec) (g : Grammar) → s.declared ≡ declarations_of g → TellsTypes (types_of s.types)
+    (grammar_of g) fault → RefusesTypes (words_of g) fault said → Replies (IfTyped s (IfAccepted s Nothing)) said
 front-untyped said fault s g same tells is = refuses-types {E = Unit {0}} (Ok said) fault s g (IfAccepted s Nothing) same tells is
 
-pub front-faulty : (said : Reply) (input : List ℕ) (line line' : ℕ) (kind kind' : SpecKind) → length input ≤ INPUT_LIMIT → specification (lines_of input) ≡ Faulty line kind → line' ≡ line → kind' ≡ kind →
+pub front-faulty : (said : Reply) (input : List ℕ) (line line' : ℕ) (kind kind' : SpecKind) → length input ≤ INPUT_LIMIT →
+    specification (lines_of input) ≡ Faulty line kind → line' ≡ line → kind' ≡ kind →
     said ≡ reply_with (BadSpecification (at_line line' (kind_name kind'))) → Replies (OfAccepted (λ s. Nothing) input) said
 front-faulty said input line line' kind kind' within faulty same_line same_kind is =
     reply-same {E = Unit {0}} (Ok said) (OfAccepted (λ s. Nothing) input) (BadSpecification (at_line line (kind_name kind))) (of-faulty (λ s. Nothing) input line kind within faulty)
     (bad-line {E = Unit {0}} (Ok said) line line' kind kind' same_line same_kind is)
 
 -- the specification of an input, whose types have no fault and which is refused
-pub front-refused : (said : Reply) (input : List ℕ) (s : Spec) (taken : ℕ) (loads : Bool) → length input ≤ INPUT_LIMIT → specification (lines_of input) ≡ Good s taken loads → Replies (IfTyped s (IfAccepted s Nothing)) said → Replies (OfAccepted (λ s. Nothing) input) said
+pub front-refused : (said : Reply) (input : List ℕ) (s : Spec) (taken : ℕ) (loads : Bool) → length input ≤ INPUT_LIMIT →
+    specification (lines_of input) ≡ Good s taken loads → Replies (IfTyped s (IfAccepted s Nothing)) said → Replies (OfAccepted (λ s. Nothing) input) said
 front-refused said input s taken loads within good (output, holds, is) = (output, of-good (λ s. Nothing) input s taken loads output within good holds, is)
 
 -- the specification that stands ready is opened by its input
-pub ready-opens : (input : List ℕ) (s : Spec) (taken : ℕ) (loads writes : Bool) (o : Opened) → length input ≤ INPUT_LIMIT → specification (lines_of input) ≡ Good s taken loads → IsReady s writes o → Opens input s
+pub ready-opens : (input : List ℕ) (s : Spec) (taken : ℕ) (loads writes : Bool) (o : Opened) → length input ≤ INPUT_LIMIT →
+    specification (lines_of input) ≡ Good s taken loads → IsReady s writes o → Opens input s
 ready-opens input s taken loads writes o within good ready =
     let found : type_fault (types_of s.types) (grammar_in s.declared) ≡ None =
     ap (λ (t : Types). type_fault (types_of t) (grammar_in s.declared)) ready.types
@@ -126,11 +136,13 @@ ready-opens input s taken loads writes o within good ready =
     record { within = within; taken = taken; loads = loads; good = good; typed = found; sound = ready.sound }
 
 -- types without a fault in front of what acceptance said
-pub front-typed : (front : Front) (s : Spec) (writes : Bool) (g : Grammar) → s.declared ≡ declarations_of g → type_fault (types_of s.types) (grammar_of g) ≡ None → ReadyOr (IfAccepted s Nothing) s writes front → ReadyOr (IfTyped s (IfAccepted s Nothing)) s writes front
+pub front-typed : (front : Front) (s : Spec) (writes : Bool) (g : Grammar) → s.declared ≡ declarations_of g → type_fault (types_of s.types)
+    (grammar_of g) ≡ None → ReadyOr (IfAccepted s Nothing) s writes front → ReadyOr (IfTyped s (IfAccepted s Nothing)) s writes front
 front-typed (Ready o) s writes g same none ready = ready
 front-typed (Refused said) s writes g same none replies = types-hold {E = Unit {0}} (Ok said) s g (IfAccepted s Nothing) same none replies
 
 -- the front of an input whose specification is good
-pub front-good : (front : Front) (input : List ℕ) (s : Spec) (taken : ℕ) (loads writes : Bool) → length input ≤ INPUT_LIMIT → specification (lines_of input) ≡ Good s taken loads → ReadyOr (IfTyped s (IfAccepted s Nothing)) s writes front → IsFrontOf input writes front
+pub front-good : (front : Front) (input : List ℕ) (s : Spec) (taken : ℕ) (loads writes : Bool) → length input ≤ INPUT_LIMIT →
+    specification (lines_of input) ≡ Good s taken loads → ReadyOr (IfTyped s (IfAccepted s Nothing)) s writes front → IsFrontOf input writes front
 front-good (Ready o) input s taken loads writes within good ready = (s, ready-opens input s taken loads writes o within good ready, ready)
 front-good (Refused said) input s taken loads writes within good replies = front-refused said input s taken loads within good replies

@@ -7,7 +7,8 @@ use Rattle.aw_front.specs.declared.limit.TheConstants.{INPUT_LIMIT}
 use Rattle.aw_front.specs.Output.{Output, PastInputLimit, BySpecification, ByInput}
 
 -- what a command makes of an input within its limit, of which the specification is read
-pub by-input-read : (makes : Spec → ℕ → Bool → Output → Type 0) (input : List ℕ) (reading : Reading) (output : Output) → length input ≤ INPUT_LIMIT → specification (lines_of input) ≡ reading → BySpecification makes reading output → ByInput makes input output
+pub by-input-read : (makes : Spec → ℕ → Bool → Output → Type 0) (input : List ℕ) (reading : Reading) (output : Output) → length input ≤ INPUT_LIMIT →
+    specification (lines_of input) ≡ reading → BySpecification makes reading output → ByInput makes input output
 unfolding ByInput
 by-input-read makes input reading output within is holds =
     subst (λ b. MatchBool b (output ≡ PastInputLimit) (BySpecification makes (specification (lines_of input)) output)) (sym (le-ltb INPUT_LIMIT (length input) within))
@@ -24,11 +25,14 @@ match-map : (test : Bool) (A B C : Type 0) → (B → C) → MatchBool test A B 
 match-map true A B C f x = x
 match-map false A B C f x = f x
 
-read-map : (P Q : Spec → ℕ → Bool → Output → Type 0) → ((s : Spec) (taken : ℕ) (loads : Bool) (output : Output) → P s taken loads output → Q s taken loads output) → (reading : Reading) (output : Output) → BySpecification P reading output → BySpecification Q reading output
+read-map : (P Q : Spec → ℕ → Bool → Output → Type 0) → ((s : Spec) (taken : ℕ) (loads : Bool) (output : Output) → P s taken loads output →
+    Q s taken loads output) → (reading : Reading) (output : Output) → BySpecification P reading output → BySpecification Q reading output
 read-map P Q f (Good s taken loads) output holds = f s taken loads output holds
 read-map P Q f (Faulty line kind) output holds = holds
 
-pub by-input-map : (P Q : Spec → ℕ → Bool → Output → Type 0) → ((s : Spec) (taken : ℕ) (loads : Bool) (output : Output) → P s taken loads output → Q s taken loads output) → (input : List ℕ) (output : Output) → ByInput P input output → ByInput Q input output
+pub by-input-map : (P Q : Spec → ℕ → Bool → Output → Type 0) → ((s : Spec) (taken : ℕ) (loads : Bool) (output : Output) → P s taken loads output →
+    Q s taken loads output) → (input : List ℕ) (output : Output) → ByInput P input output → ByInput Q input output
 unfolding ByInput
 by-input-map P Q f input output =
-    match-map (nat_lt INPUT_LIMIT (length input)) (output ≡ PastInputLimit) (BySpecification P (specification (lines_of input)) output) (BySpecification Q (specification (lines_of input)) output) (read-map P Q f (specification (lines_of input)) output)
+    match-map (nat_lt INPUT_LIMIT (length input)) (output ≡ PastInputLimit) (BySpecification P (specification (lines_of input)) output)
+    (BySpecification Q (specification (lines_of input)) output) (read-map P Q f (specification (lines_of input)) output)

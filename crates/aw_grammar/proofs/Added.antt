@@ -28,14 +28,18 @@ listed roles cons sorts rules = record { roles = roles; cons = cons; sorts = sor
 abbrev pub Good : List (List ℕ) → List Con → List Sort → List Rule → Type 0
 Good roles cons sorts rules = IsWellFormed (plain_words roles cons sorts rules) (plain_grammar roles cons sorts rules)
 
-pub good_role : (roles : List (List ℕ)) (cons : List Con) (sorts : List Sort) (rules : List Rule) (name : List ℕ) (new : List (List ℕ)) → new ≡ roles ++ name ∷ [] → sorts ≡ [] → rules ≡ [] → is_name name ≡ true → role_kind (listed roles cons sorts rules) name ≡ None → ∥ Good roles cons sorts rules ∥₁ → ∥ Good new cons sorts rules ∥₁
+pub good_role : (roles : List (List ℕ)) (cons : List Con) (sorts : List Sort) (rules : List Rule) (name : List ℕ) (new : List (List ℕ)) →
+    new ≡ roles ++ name ∷ [] → sorts ≡ [] → rules ≡ [] → is_name name ≡ true → role_kind (listed roles cons sorts rules) name ≡ None →
+    ∥ Good roles cons sorts rules ∥₁ → ∥ Good new cons sorts rules ∥₁
 good_role roles cons [] [] name new e no_sorts no_rules named none good =
     let tests = none_holds (role_tests (listed roles cons [] []) name) none in
     ∥∥₁_map good (λ w. subst (λ rs. Good rs cons [] []) (sym e) (well_formed_role roles cons name w named (leb-false 64 (length roles) tests.0) tests.1.0))
 good_role roles cons (s ∷ ss) rules name new e no_sorts no_rules named none good = cc
 good_role roles cons [] (r ∷ rs) name new e no_sorts no_rules named none good = cc
 
-pub good_con : (roles : List (List ℕ)) (cons : List Con) (sorts : List Sort) (rules : List Rule) (con : RawCon) (new : List Con) → new ≡ cons ++ record { name = con.name; arity = con.arity } ∷ [] → rules ≡ [] → is_name con.name ≡ true → con_kind (listed roles cons sorts rules) con ≡ None → ∥ Good roles cons sorts rules ∥₁ → ∥ Good roles new sorts rules ∥₁
+pub good_con : (roles : List (List ℕ)) (cons : List Con) (sorts : List Sort) (rules : List Rule) (con : RawCon) (new : List Con) →
+    new ≡ cons ++ record { name = con.name; arity = con.arity } ∷ [] → rules ≡ [] → is_name con.name ≡ true → con_kind (listed roles cons sorts rules)
+    con ≡ None → ∥ Good roles cons sorts rules ∥₁ → ∥ Good roles new sorts rules ∥₁
 good_con roles cons sorts [] con new e no_rules named none good =
     let tests = none_holds (con_tests (listed roles cons sorts []) con) none in
     let limits = or_parts _ _ tests.0 in
@@ -43,7 +47,9 @@ good_con roles cons sorts [] con new e no_rules named none good =
     (well_formed_con roles cons sorts (record { name = con.name; arity = con.arity }) w named (leb-false most_cons (length cons) limits.0) (ltb-false most_parts con.arity limits.1) tests.1.0))
 good_con roles cons sorts (r ∷ rs) con new e no_rules named none good = cc
 
-pub good_sort : (roles : List (List ℕ)) (cons : List Con) (sorts : List Sort) (rules : List Rule) (sort : RawSort) (new : List Sort) → new ≡ sorts ++ sort_declared (listed roles cons sorts rules) sort ∷ [] → rules ≡ [] → is_name sort.name ≡ true → sort_kind (listed roles cons sorts rules) sort ≡ None → ∥ Good roles cons sorts rules ∥₁ → ∥ Good roles cons new rules ∥₁
+pub good_sort : (roles : List (List ℕ)) (cons : List Con) (sorts : List Sort) (rules : List Rule) (sort : RawSort) (new : List Sort) →
+    new ≡ sorts ++ sort_declared (listed roles cons sorts rules) sort ∷ [] → rules ≡ [] → is_name sort.name ≡ true →
+    sort_kind (listed roles cons sorts rules) sort ≡ None → ∥ Good roles cons sorts rules ∥₁ → ∥ Good roles cons new rules ∥₁
 good_sort roles cons sorts [] sort new e no_rules named none good =
     let tests = none_holds (sort_tests (listed roles cons sorts []) sort) none in
     let few = or_parts _ _ tests.0 in
@@ -71,7 +77,8 @@ start_tests s h =
     let tests = none_holds ((s.start, Double) ∷ (nat_lt 0 s.takes, Inherits) ∷ []) h in
     omega (arith, ltb-false 0 s.takes tests.1.0)
 
-start_at_place : (name : List ℕ) (sorts : List Sort) (o : Option ℕ) → o ≡ place_of name (map (λ (s : Sort). s.name) sorts) → start_kind_of (option_and_then (λ i. slice_get sorts i) o) ≡ None → StartFound name sorts
+start_at_place : (name : List ℕ) (sorts : List Sort) (o : Option ℕ) → o ≡ place_of name (map (λ (s : Sort). s.name) sorts) →
+    start_kind_of (option_and_then (λ i. slice_get sorts i) o) ≡ None → StartFound name sorts
 start_at_place name sorts None e h = cc
 start_at_place name sorts (Some i) e h = start_at_sort (slice_get sorts i) refl h
   where
@@ -85,7 +92,9 @@ start_found roles cons sorts rules name h = start_at_place name sorts (place_of 
 pub start_stands : (name : List ℕ) (sorts : List Sort) → StartFound name sorts → stands name (map (λ (s : Sort). s.name) sorts) ≡ true
 start_stands name sorts found = sym (stands_is_placed name (map (λ (s : Sort). s.name) sorts)) ∙ ap is_some found.placed
 
-pub good_start : (roles : List (List ℕ)) (cons : List Con) (sorts : List Sort) (rules : List Rule) (name : List ℕ) (new : List Sort) → new ≡ with_start_at sorts (number_of name (map (λ (s : Sort). s.name) sorts)) → rules ≡ [] → start_kind (listed roles cons sorts rules) name ≡ None → ∥ Good roles cons sorts rules ∥₁ → ∥ Good roles cons new rules ∥₁
+pub good_start : (roles : List (List ℕ)) (cons : List Con) (sorts : List Sort) (rules : List Rule) (name : List ℕ) (new : List Sort) →
+    new ≡ with_start_at sorts (number_of name (map (λ (s : Sort). s.name) sorts)) → rules ≡ [] → start_kind (listed roles cons sorts rules)
+    name ≡ None → ∥ Good roles cons sorts rules ∥₁ → ∥ Good roles cons new rules ∥₁
 good_start roles cons sorts [] name new e no_rules none good =
     let found = start_found roles cons sorts [] name none in
     let names = map (λ (s : Sort). s.name) sorts in

@@ -17,7 +17,9 @@ use Rattle.aw_grammar.proofs.Growth.{differ_push, four_from, four_to}
 length_push : {A : Type 0} (xs : List A) (x : A) (n : ℕ) → length xs < n → length (xs ++ x ∷ []) ≤ n
 length_push xs x n less = omega (arith, length-append xs (x ∷ []))
 
-pub well_formed_role : (roles : List (List ℕ)) (cons : List Con) (name : List ℕ) → IsWellFormed (plain_words roles cons [] []) (plain_grammar roles cons [] []) → is_name name ≡ true → length roles < 64 → stands name roles ≡ false → IsWellFormed (plain_words (roles ++ name ∷ []) cons [] []) (plain_grammar (roles ++ name ∷ []) cons [] [])
+pub well_formed_role : (roles : List (List ℕ)) (cons : List Con) (name : List ℕ) → IsWellFormed (plain_words roles cons [] [])
+    (plain_grammar roles cons [] []) → is_name name ≡ true → length roles < 64 → stands name roles ≡ false →
+    IsWellFormed (plain_words (roles ++ name ∷ []) cons [] []) (plain_grammar (roles ++ name ∷ []) cons [] [])
 well_formed_role roles cons name w named few absent =
     let names = four_from (λ n. is_name n ≡ true) roles (map (λ (c : Con). c.name) cons) [] [] w.names in
     record {
@@ -39,7 +41,10 @@ well_formed_role roles cons name w named few absent =
       rules = tt;
     }
 
-pub well_formed_con : (roles : List (List ℕ)) (cons : List Con) (sorts : List Sort) (con : Con) → IsWellFormed (plain_words roles cons sorts []) (plain_grammar roles cons sorts []) → is_name con.name ≡ true → length cons < 1024 → con.arity ≤ most_parts → stands con.name (map (λ (c : Con). c.name) cons) ≡ false → IsWellFormed (plain_words roles (cons ++ con ∷ []) sorts []) (plain_grammar roles (cons ++ con ∷ []) sorts [])
+pub well_formed_con : (roles : List (List ℕ)) (cons : List Con) (sorts : List Sort) (con : Con) → IsWellFormed (plain_words roles cons sorts [])
+    (plain_grammar roles cons sorts []) → is_name con.name ≡ true → length cons < 1024 → con.arity ≤ most_parts →
+    stands con.name (map (λ (c : Con). c.name) cons) ≡ false → IsWellFormed (plain_words roles (cons ++ con ∷ []) sorts [])
+    (plain_grammar roles (cons ++ con ∷ []) sorts [])
 well_formed_con roles cons sorts con w named few small absent =
     let old = map (λ (c : Con). c.name) cons in
     let sort_names = map (λ (s : Sort). s.name) sorts in
@@ -61,12 +66,16 @@ well_formed_con roles cons sorts con w named few small absent =
       cons_differ = subst (λ ns. Differ ns) pushed (differ_push old con.name w.cons_differ absent);
       sorts_differ = w.sorts_differ;
       rules_differ = tt;
-      arities = subst (λ ns. Each (λ n. n ≤ most_parts) ns) (sym (map-append (λ (c : Con). c.arity) cons (con ∷ []))) (each_push (λ n. n ≤ most_parts) (map (λ (c : Con). c.arity) cons) con.arity w.arities small);
+      arities = subst (λ ns. Each (λ n. n ≤ most_parts) ns) (sym (map-append (λ (c : Con). c.arity) cons (con ∷ [])))
+          (each_push (λ n. n ≤ most_parts) (map (λ (c : Con). c.arity) cons) con.arity w.arities small);
       sorts = w.sorts;
       rules = tt;
     }
 
-pub well_formed_sort : (roles : List (List ℕ)) (cons : List Con) (sorts : List Sort) (sort : Sort) → IsWellFormed (plain_words roles cons sorts []) (plain_grammar roles cons sorts []) → is_name sort.name ≡ true → length sorts < 256 → SortFits (length roles) (sort_of sort) → stands sort.name (map (λ (s : Sort). s.name) sorts) ≡ false → IsWellFormed (plain_words roles cons (sorts ++ sort ∷ []) []) (plain_grammar roles cons (sorts ++ sort ∷ []) [])
+pub well_formed_sort : (roles : List (List ℕ)) (cons : List Con) (sorts : List Sort) (sort : Sort) → IsWellFormed (plain_words roles cons sorts [])
+    (plain_grammar roles cons sorts []) → is_name sort.name ≡ true → length sorts < 256 → SortFits (length roles) (sort_of sort) →
+    stands sort.name (map (λ (s : Sort). s.name) sorts) ≡ false → IsWellFormed (plain_words roles cons (sorts ++ sort ∷ []) [])
+    (plain_grammar roles cons (sorts ++ sort ∷ []) [])
 well_formed_sort roles cons sorts sort w named few fits absent =
     let old = map (λ (s : Sort). s.name) sorts in
     let con_names = map (λ (c : Con). c.name) cons in
@@ -99,7 +108,8 @@ names_of_start [] i = refl
 names_of_start (s ∷ sorts) zero = refl
 names_of_start (s ∷ sorts) (suc i) = ap (λ ns. s.name ∷ ns) (names_of_start sorts i)
 
-starts_fit : (roles : ℕ) (sorts : List Sort) (i : ℕ) (sort : Sort) → slice_get sorts i ≡ Some sort → sort.takes ≡ 0 → Each (SortFits roles) (sorts_of sorts) → Each (SortFits roles) (sorts_of (with_start_at sorts i))
+starts_fit : (roles : ℕ) (sorts : List Sort) (i : ℕ) (sort : Sort) → slice_get sorts i ≡ Some sort → sort.takes ≡ 0 → Each (SortFits roles)
+    (sorts_of sorts) → Each (SortFits roles) (sorts_of (with_start_at sorts i))
 starts_fit roles [] i sort found none each = tt
 starts_fit roles (s ∷ sorts) zero sort found none each =
     let same : s ≡ sort = cc in
@@ -107,7 +117,9 @@ starts_fit roles (s ∷ sorts) zero sort found none each =
     (record { declared = old.declared; few_takes = old.few_takes; few_gives = old.few_gives; start = λ e. ap (λ (z : Sort). z.takes) same ∙ none }, each.1)
 starts_fit roles (s ∷ sorts) (suc i) sort found none each = (each.0, starts_fit roles sorts i sort found none each.1)
 
-pub well_formed_start : (roles : List (List ℕ)) (cons : List Con) (sorts : List Sort) (i : ℕ) (sort : Sort) → IsWellFormed (plain_words roles cons sorts []) (plain_grammar roles cons sorts []) → slice_get sorts i ≡ Some sort → sort.takes ≡ 0 → IsWellFormed (plain_words roles cons (with_start_at sorts i) []) (plain_grammar roles cons (with_start_at sorts i) [])
+pub well_formed_start : (roles : List (List ℕ)) (cons : List Con) (sorts : List Sort) (i : ℕ) (sort : Sort) →
+    IsWellFormed (plain_words roles cons sorts []) (plain_grammar roles cons sorts []) → slice_get sorts i ≡ Some sort → sort.takes ≡ 0 →
+    IsWellFormed (plain_words roles cons (with_start_at sorts i) []) (plain_grammar roles cons (with_start_at sorts i) [])
 well_formed_start roles cons sorts i sort w found none =
     let same = sym (names_of_start sorts i) in
     record {

@@ -13,7 +13,8 @@ use Rattle.aw_grammar.specs.Written.{WrittenRule, WrittenChild}
 use Rattle.aw_grammar.specs.Terms.{results_of, uses_of, terms_of}
 use Rattle.aw_grammar.specs.Resolved.{all_resolved, entering}
 use Rattle.aw_grammar.specs.Declarations.{Declarations, con_names, sort_names}
-use Rattle.aw_grammar.specs.Kinds.{is_past_counts, is_past_terms, child_sorts, sort_called, takes_and_gives, children_fit, all_known, all_have_arities, names_unknown, arity_differs, name_tests, term_tests, variable_tests, rule_kind}
+use Rattle.aw_grammar.specs.Kinds.{is_past_counts, is_past_terms, child_sorts, sort_called, takes_and_gives, children_fit, all_known, all_have_arities}
+use Rattle.aw_grammar.specs.Kinds.{names_unknown, arity_differs, name_tests, term_tests, variable_tests, rule_kind}
 use Rattle.aw_grammar.specs.Faultless.{all_faultless, is_faultless_rule}
 use Rattle.aw_grammar.proofs.Appends.{any_append, all_append, variables_append}
 use Rattle.aw_grammar.proofs.RuleTold.{later_tests, late_told, never_told}
@@ -94,7 +95,8 @@ no_fault_told d r past none once h =
     let t = and_parts (all_known (con_names d) (terms_of r)) (all_have_arities d.cons (terms_of r) && uses_enter d r) (sym (terms_are d r (entering_free d r none)) ∙ q.1) in
     let u = and_parts (all_have_arities d.cons (terms_of r)) (uses_enter d r) t.1 in
     let unknown : names_unknown d r ≡ false =
-    or_from (not (stands r.sort (sort_names d))) (not (all_stand (child_sorts r.children) (sort_names d)) || not (all_known (con_names d) (terms_of r))) (ap not (fits_stands r.sort d.sorts (length r.patterns) (length r.results) p.0))
+    or_from (not (stands r.sort (sort_names d))) (not (all_stand (child_sorts r.children) (sort_names d))
+    || not (all_known (con_names d) (terms_of r))) (ap not (fits_stands r.sort d.sorts (length r.patterns) (length r.results) p.0))
     (or_from (not (all_stand (child_sorts r.children) (sort_names d))) (not (all_known (con_names d) (terms_of r))) (ap not (children_stand d.sorts r.children q.0)) (ap not t.0)) in
     let differs : arity_differs d r ≡ false =
     or_from (not (takes_and_gives (sort_called r.sort d.sorts) (length r.patterns) (length r.results))) (not fit || not (all_have_arities d.cons (terms_of r))) (ap not p.0)
@@ -104,7 +106,8 @@ no_fault_told d r past none once h =
 
 -- a rule with a fault
 
-never_enters : (d : Declarations) (r : WrittenRule) → any_stands (entering (con_names d) r) (con_names d) ≡ false → is_faultless_rule d r ≡ false → first_told (term_tests d r) ≡ None → uses_enter d r ≡ false
+never_enters : (d : Declarations) (r : WrittenRule) → any_stands (entering (con_names d) r) (con_names d) ≡ false → is_faultless_rule d r ≡ false →
+    first_told (term_tests d r) ≡ None → uses_enter d r ≡ false
 never_enters d r free h clear =
     let tests = none_holds (term_tests d r) clear in
     let all = all_faultless d.cons (entering (con_names d) r) (terms_of r) in

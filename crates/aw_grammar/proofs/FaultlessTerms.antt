@@ -1,5 +1,6 @@
 -- A term is faultless word by word exactly where no test of terms finds a fault in it.
-use Rattle.std.proofs.Common.{◌≡◌, ℕ, zero, suc, ◌<◌, Bool, true, false, ◌&&◌, ◌||◌, is_some, List, [], ◌∷◌, ◌++◌, map, length, Option, Some, None, option_and_then, slice_get, refl, sym, ap, ◌∙◌, subst, arith}
+use Rattle.std.proofs.Common.{◌≡◌, ℕ, zero, suc, ◌<◌, Bool, true, false, ◌&&◌, ◌||◌, is_some, List, [], ◌∷◌, ◌++◌, map, length, Option, Some, None}
+use Rattle.std.proofs.Common.{option_and_then, slice_get, refl, sym, ap, ◌∙◌, subst, arith}
 use Rattle.std.proofs.lemmas.Bool.{or_parts, or_from}
 use Rattle.std.proofs.lemmas.List.{length-map}
 use Rattle.aw_name_index.specs.Places.{is_same, place_of, or_else, number_of, stands, any_stands, all_stand}
@@ -127,7 +128,8 @@ mutual
       let n = count_parts ts in
       let rest = parts_are_faultless cons variables ts in
       (λ i. declared_is cons x n i && parts_tests_are cons variables ts free i)
-      ∙ apply_tests (stands x (names_of cons)) (has_arity n (con_called x cons)) (parts_are_known (names_of cons) ts) (parts_have_arities cons ts) (all_stand (all_leaves (resolved_parts (names_of cons) ts)) variables)
+      ∙ apply_tests (stands x (names_of cons)) (has_arity n (con_called x cons)) (parts_are_known (names_of cons) ts) (parts_have_arities cons ts)
+      (all_stand (all_leaves (resolved_parts (names_of cons) ts)) variables)
   term_tests_are cons variables (Literal h) free = refl
 
   parts_tests_are : (cons : List Con) (variables : List (List ℕ)) (ts : Writtens) → any_stands variables (names_of cons) ≡ false
@@ -139,7 +141,8 @@ mutual
       let later = all_stand (all_leaves (resolved_parts names ts)) variables in
       (λ i. term_tests_are cons variables t free i && parts_tests_are cons variables ts free i)
       ∙ pair_tests (is_known names t) (has_arities cons t) here (parts_are_known names ts) (parts_have_arities cons ts) later
-      ∙ ap (λ b. (is_known names t && parts_are_known names ts) && ((has_arities cons t && parts_have_arities cons ts) && b)) (sym (all_append variables (leaves (resolved names t)) (all_leaves (resolved_parts names ts))))
+      ∙ ap (λ b. (is_known names t && parts_are_known names ts) && ((has_arities cons t && parts_have_arities cons ts) && b))
+      (sym (all_append variables (leaves (resolved names t)) (all_leaves (resolved_parts names ts))))
 
 pub all_tests_are : (cons : List Con) (variables : List (List ℕ)) (ts : List Written) → any_stands variables (names_of cons) ≡ false
     → all_faultless cons variables ts ≡ (all_known (names_of cons) ts && (all_have_arities cons ts && all_stand (leaves_of (all_resolved (names_of cons) ts)) variables))
@@ -150,7 +153,8 @@ all_tests_are cons variables (t ∷ ts) free =
     let later = all_stand (leaves_of (all_resolved names ts)) variables in
     (λ i. term_tests_are cons variables t free i && all_tests_are cons variables ts free i)
     ∙ pair_tests (is_known names t) (has_arities cons t) here (all_known names ts) (all_have_arities cons ts) later
-    ∙ ap (λ b. (is_known names t && all_known names ts) && ((has_arities cons t && all_have_arities cons ts) && b)) (sym (all_append variables (leaves (resolved names t)) (leaves_of (all_resolved names ts))))
+    ∙ ap (λ b. (is_known names t && all_known names ts) && ((has_arities cons t && all_have_arities cons ts) && b))
+    (sym (all_append variables (leaves (resolved names t)) (leaves_of (all_resolved names ts))))
 
 -- the leaves of terms are no constructors
 
@@ -190,9 +194,11 @@ faultless_apply cons variables t name parts e =
     ∙ ap (λ n. is_declared n (con_called name cons) && parts_are_faultless cons variables (side_by_side (map written_of parts))) (count_side (map written_of parts) ∙ length-map parts written_of)
     ∙ ap (λ b. is_declared (length parts) (con_called name cons) && b) (parts_side cons variables (map written_of parts))
 
-pub faultless_append : (cons : List Con) (variables : List (List ℕ)) (xs ys : List Written) → all_faultless cons variables (xs ++ ys) ≡ (all_faultless cons variables xs && all_faultless cons variables ys)
+pub faultless_append : (cons : List Con) (variables : List (List ℕ)) (xs ys : List Written) → all_faultless cons variables
+    (xs ++ ys) ≡ (all_faultless cons variables xs && all_faultless cons variables ys)
 faultless_append cons variables [] ys = refl
-faultless_append cons variables (x ∷ xs) ys = and_more (is_faultless cons variables x) (all_faultless cons variables (xs ++ ys)) (all_faultless cons variables xs) (all_faultless cons variables ys) (faultless_append cons variables xs ys)
+faultless_append cons variables (x ∷ xs) ys = and_more (is_faultless cons variables x) (all_faultless cons variables (xs ++ ys))
+    (all_faultless cons variables xs) (all_faultless cons variables ys) (faultless_append cons variables xs ys)
 
 pub variable_absent : (variables : List (List ℕ)) (x : List ℕ) → None ≡ place_of x variables → stands x variables ≡ false
 variable_absent variables x e = sym (stands_is_placed x variables) ∙ ap is_some (sym e)
@@ -210,6 +216,7 @@ made_some faultless Holds o made e h = subst (λ r. IsMade faultless Holds r) e 
 pub placed_number : (names : List (List ℕ)) (x : List ℕ) (n : ℕ) → Some n ≡ place_of x names → n ≡ number_of x names
 placed_number names x n e = ap (or_else (length names)) e
 
-pub faultless_three : (cons : List Con) (variables : List (List ℕ)) (xs ys zs : List Written) → (all_faultless cons variables xs && (all_faultless cons variables ys && all_faultless cons variables zs)) ≡ all_faultless cons variables (xs ++ (ys ++ zs))
+pub faultless_three : (cons : List Con) (variables : List (List ℕ)) (xs ys zs : List Written) →
+    (all_faultless cons variables xs && (all_faultless cons variables ys && all_faultless cons variables zs)) ≡ all_faultless cons variables (xs ++ (ys ++ zs))
 faultless_three cons variables xs ys zs =
     sym (faultless_append cons variables xs (ys ++ zs) ∙ ap (λ b. all_faultless cons variables xs && b) (faultless_append cons variables ys zs))

@@ -16,6 +16,7 @@ each_map_at f P (y ∷ ys) zero x each e =
 each_map_at f P (y ∷ ys) (suc i) x each e = each_map_at f P ys i x each.1 e
 
 -- of the item behind a look-up's reference
-pub if_found : {A : Type 0} (Q : A → Type 0) (found : Option (Bor A)) (xs : List A) (i : ℕ) → option_copied found ≡ slice_get xs i → ((x : A) → slice_get xs i ≡ Some x → Q x) → IfSome found (λ r. Q r.now)
+pub if_found : {A : Type 0} (Q : A → Type 0) (found : Option (Bor A)) (xs : List A) (i : ℕ) → option_copied found ≡ slice_get xs i →
+    ((x : A) → slice_get xs i ≡ Some x → Q x) → IfSome found (λ r. Q r.now)
 if_found Q None xs i e here = tt
 if_found Q (Some r) xs i e here = here r.now (sym e)

@@ -1,5 +1,6 @@
 -- A written rule without fault stands for a rule that fits.
-use Rattle.std.proofs.Common.{◌≡◌, ℕ, zero, suc, ◌+◌, ◌<◌, ◌≤◌, max, nat_eq, nat_lt, nat_le, true, false, not, ◌&&◌, ◌||◌, List, [], ◌∷◌, ◌++◌, length, map, Option, Some, None, option_and_then, slice_get, refl, sym, ap, ◌∙◌, subst, arith, length-append}
+use Rattle.std.proofs.Common.{◌≡◌, ℕ, zero, suc, ◌+◌, ◌<◌, ◌≤◌, max, nat_eq, nat_lt, nat_le, true, false, not, ◌&&◌, ◌||◌, List, [], ◌∷◌, ◌++◌, length}
+use Rattle.std.proofs.Common.{map, Option, Some, None, option_and_then, slice_get, refl, sym, ap, ◌∙◌, subst, arith, length-append}
 use Rattle.std.proofs.lemmas.List.{length-map}
 use Rattle.std.proofs.lemmas.Bool.{and_parts, eqb-true, ltb-false, not-false, or_parts}
 use Rattle.aw_name_index.specs.Places.{place_of, or_else, number_of, stands, all_stand, has_double}
@@ -39,7 +40,8 @@ get_sort [] i s h = cc
 get_sort (t ∷ sorts) zero s h = let same : t ≡ s = cc in ap (λ z. Some (sort_of z)) same
 get_sort (t ∷ sorts) (suc i) s h = get_sort sorts i s h
 
-sort_has_at : (sorts : List Sort) (name : List ℕ) (takes gives i : ℕ) (s : Sort) → place_of name (sort_names sorts) ≡ Some i → slice_get sorts i ≡ Some s → (nat_eq s.takes takes && nat_eq s.gives gives) ≡ true → SortHas sorts name takes gives
+sort_has_at : (sorts : List Sort) (name : List ℕ) (takes gives i : ℕ) (s : Sort) → place_of name (sort_names sorts) ≡ Some i →
+    slice_get sorts i ≡ Some s → (nat_eq s.takes takes && nat_eq s.gives gives) ≡ true → SortHas sorts name takes gives
 sort_has_at sorts name takes gives i s placed found h =
     let parts = and_parts (nat_eq s.takes takes) (nat_eq s.gives gives) h in
     let at : number_of name (sort_names sorts) ≡ i = ap (or_else (length (sort_names sorts))) placed in
@@ -51,11 +53,13 @@ sort_has_at sorts name takes gives i s placed found h =
       gives_so = sym (eqb-true s.gives gives parts.1) ∙ sym (ap Q.gives_of got);
     }
 
-sort_has_found : (sorts : List Sort) (name : List ℕ) (takes gives i : ℕ) (o : Option Sort) → place_of name (sort_names sorts) ≡ Some i → slice_get sorts i ≡ o → takes_and_gives o takes gives ≡ true → SortHas sorts name takes gives
+sort_has_found : (sorts : List Sort) (name : List ℕ) (takes gives i : ℕ) (o : Option Sort) → place_of name (sort_names sorts) ≡ Some i →
+    slice_get sorts i ≡ o → takes_and_gives o takes gives ≡ true → SortHas sorts name takes gives
 sort_has_found sorts name takes gives i None placed found h = cc
 sort_has_found sorts name takes gives i (Some s) placed found h = sort_has_at sorts name takes gives i s placed found h
 
-sort_has_placed : (sorts : List Sort) (name : List ℕ) (takes gives : ℕ) (o : Option ℕ) → place_of name (sort_names sorts) ≡ o → takes_and_gives (option_and_then (λ i. slice_get sorts i) o) takes gives ≡ true → SortHas sorts name takes gives
+sort_has_placed : (sorts : List Sort) (name : List ℕ) (takes gives : ℕ) (o : Option ℕ) → place_of name (sort_names sorts) ≡ o →
+    takes_and_gives (option_and_then (λ i. slice_get sorts i) o) takes gives ≡ true → SortHas sorts name takes gives
 sort_has_placed sorts name takes gives None placed h = cc
 sort_has_placed sorts name takes gives (Some i) placed h = sort_has_found sorts name takes gives i (slice_get sorts i) placed refl h
 
@@ -92,7 +96,9 @@ enter_each cons names ts h =
     subst (Each (λ v. v < length names)) (sym (numbered_leaves (con_names cons) names ts)) (numbers_below (leaves_of (all_resolved (con_names cons) ts)) names h)
 
 -- each child fits
-children_fit_each : (roles : List (List ℕ)) (cons : List Con) (sorts : List Sort) (rules : List Rule) (names : List (List ℕ)) (cs : List WrittenChild) → children_fit sorts cs ≡ true → Sound cons (args_of cs) → Enter cons names (args_of cs) → Each (ChildFits (plain_grammar roles cons sorts rules) (length names)) (map (child_numbered (con_names cons) (sort_names sorts) names) cs)
+children_fit_each : (roles : List (List ℕ)) (cons : List Con) (sorts : List Sort) (rules : List Rule) (names : List (List ℕ))
+    (cs : List WrittenChild) → children_fit sorts cs ≡ true → Sound cons (args_of cs) → Enter cons names (args_of cs) →
+    Each (ChildFits (plain_grammar roles cons sorts rules) (length names)) (map (child_numbered (con_names cons) (sort_names sorts) names) cs)
 children_fit_each roles cons sorts rules names [] fit sound enter = tt
 children_fit_each roles cons sorts rules names (c ∷ cs) fit sound enter =
     let f = and_parts (takes_and_gives (sort_called c.sort sorts) (length c.args) (length c.results)) (children_fit sorts cs) fit in
@@ -139,7 +145,8 @@ pub record NoFault (cons : List Con) (sorts : List Sort) (w : WrittenRule) : Typ
   pub once : has_double (entering (con_names cons) w) ≡ false
   pub enter : Enter cons (entering (con_names cons) w) (uses_of w)
 
-pub rule_fits : (roles : List (List ℕ)) (cons : List Con) (sorts : List Sort) (rules : List Rule) (w : WrittenRule) → NoFault cons sorts w → RuleFits (plain_grammar roles cons sorts rules) (rule_numbered (con_names cons) (sort_names sorts) (entering (con_names cons) w) w)
+pub rule_fits : (roles : List (List ℕ)) (cons : List Con) (sorts : List Sort) (rules : List Rule) (w : WrittenRule) → NoFault cons sorts w →
+    RuleFits (plain_grammar roles cons sorts rules) (rule_numbered (con_names cons) (sort_names sorts) (entering (con_names cons) w) w)
 rule_fits roles cons sorts rules w n =
     let names = entering (con_names cons) w in
     let first = leaves_of (all_resolved (con_names cons) w.patterns) in
@@ -166,23 +173,37 @@ rule_fits roles cons sorts rules w n =
           (children_fit_each roles cons sorts rules names w.children n.child_fits t.0 e.0);
     }
   where
-    all_symbols_few : (cons sorts names : List (List ℕ)) (w : WrittenRule) → symbols_in_all (terms_of w) ≤ 256 → symbols_of (map (numbered cons names) w.patterns) + child_symbols (map (child_numbered cons sorts names) w.children) + symbols_of (map (numbered cons names) w.results) ≤ 256
+    all_symbols_few : (cons sorts names : List (List ℕ)) (w : WrittenRule) → symbols_in_all (terms_of w) ≤ 256 →
+        symbols_of (map (numbered cons names) w.patterns) + child_symbols (map (child_numbered cons sorts names) w.children) + symbols_of
+        (map (numbered cons names) w.results) ≤ 256
     all_symbols_few cons sorts names w few =
-        omega (arith, few, all_numbered_symbols cons names w.patterns, child_symbols_are cons sorts names w.children, all_numbered_symbols cons names w.results, symbols_append w.patterns (args_of w.children ++ w.results), symbols_append (args_of w.children) w.results)
+        omega (
+          arith,
+          few,
+          all_numbered_symbols cons names w.patterns,
+          child_symbols_are cons sorts names w.children,
+          all_numbered_symbols cons names
+              w.results,
+          symbols_append w.patterns (args_of w.children ++ w.results),
+          symbols_append (args_of w.children) w.results,
+        )
 
-pub no_fault : (roles : List (List ℕ)) (cons : List Con) (sorts : List Sort) (rules : List Rule) (w : WrittenRule) → rule_kind (listed roles cons sorts rules) w ≡ None → all_have_contents (terms_of w) ≡ true → NoFault cons sorts w
+pub no_fault : (roles : List (List ℕ)) (cons : List Con) (sorts : List Sort) (rules : List Rule) (w : WrittenRule) →
+    rule_kind (listed roles cons sorts rules) w ≡ None → all_have_contents (terms_of w) ≡ true → NoFault cons sorts w
 no_fault roles cons sorts rules w none contents =
     let d = listed roles cons sorts rules in
     let tests = none_holds (rule_tests d w) none in
     let past = or_parts (is_past_counts d w) (is_past_terms w) tests.0 in
-    let a = or_parts (nat_le most_rules (length d.rules)) (nat_lt most_inherited (length w.patterns) || (nat_lt most_results (length w.results) || (nat_lt most_params (length w.params) || nat_lt most_children (length w.children)))) past.0 in
+    let a = or_parts (nat_le most_rules (length d.rules)) (nat_lt most_inherited (length w.patterns) || (nat_lt most_results (length w.results)
+    || (nat_lt most_params (length w.params) || nat_lt most_children (length w.children)))) past.0 in
     let b = or_parts (nat_lt most_inherited (length w.patterns)) (nat_lt most_results (length w.results) || (nat_lt most_params (length w.params) || nat_lt most_children (length w.children))) a.1 in
     let c = or_parts (nat_lt most_results (length w.results)) (nat_lt most_params (length w.params) || nat_lt most_children (length w.children)) b.1 in
     let e = or_parts (nat_lt most_params (length w.params)) (nat_lt most_children (length w.children)) c.1 in
     let sizes = or_parts (nat_lt 32 (depth_of_all (terms_of w))) (nat_lt 256 (symbols_in_all (terms_of w))) past.1 in
     let unknown = or_parts (not (stands w.sort (sort_names sorts))) (not (all_stand (child_sorts w.children) (sort_names sorts)) || not (all_known (con_names cons) (terms_of w))) tests.1.1.1.1.0 in
     let known = or_parts (not (all_stand (child_sorts w.children) (sort_names sorts))) (not (all_known (con_names cons) (terms_of w))) unknown.1 in
-    let differs = or_parts (not (takes_and_gives (sort_called w.sort sorts) (length w.patterns) (length w.results))) (not (children_fit sorts w.children) || not (all_have_arities cons (terms_of w))) tests.1.1.1.1.1.0 in
+    let differs = or_parts (not (takes_and_gives (sort_called w.sort sorts) (length w.patterns) (length w.results)))
+    (not (children_fit sorts w.children) || not (all_have_arities cons (terms_of w))) tests.1.1.1.1.1.0 in
     let arity = or_parts (not (children_fit sorts w.children)) (not (all_have_arities cons (terms_of w))) differs.1 in
     record {
       few_params = ltb-false most_params (length w.params) e.0;

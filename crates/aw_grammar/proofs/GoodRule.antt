@@ -32,7 +32,8 @@ use Rattle.aw_grammar.proofs.Entries.{names_of_entries}
 use Rattle.aw_grammar.proofs.FitsRule.{rule_fits, no_fault}
 
 -- a rule fits whatever other rules there are
-pub other_rules : (roles : List (List ℕ)) (cons : List Con) (sorts : List Sort) (old new : List Rule) (r : P.Rule) → RuleFits (plain_grammar roles cons sorts old) r → RuleFits (plain_grammar roles cons sorts new) r
+pub other_rules : (roles : List (List ℕ)) (cons : List Con) (sorts : List Sort) (old new : List Rule) (r : P.Rule) →
+    RuleFits (plain_grammar roles cons sorts old) r → RuleFits (plain_grammar roles cons sorts new) r
 other_rules roles cons sorts old new r f = record {
   declared = f.declared;
   takes = f.takes;
@@ -48,7 +49,9 @@ other_rules roles cons sorts old new r f = record {
   children = each_map _ _ r.children (λ c h. record { declared = h.declared; takes = h.takes; gives = h.gives; terms = h.terms; enter = h.enter }) f.children;
 }
 
-well_formed_rule : (roles : List (List ℕ)) (cons : List Con) (sorts : List Sort) (rules : List Rule) (r : Rule) → Good roles cons sorts rules → is_name r.name ≡ true → length rules < 1024 → stands r.name (map (λ (u : Rule). u.name) rules) ≡ false → RuleFits (plain_grammar roles cons sorts (rules ++ r ∷ [])) (rule_of sorts r) → Good roles cons sorts (rules ++ r ∷ [])
+well_formed_rule : (roles : List (List ℕ)) (cons : List Con) (sorts : List Sort) (rules : List Rule) (r : Rule) → Good roles cons sorts rules →
+    is_name r.name ≡ true → length rules < 1024 → stands r.name (map (λ (u : Rule). u.name) rules) ≡ false →
+    RuleFits (plain_grammar roles cons sorts (rules ++ r ∷ [])) (rule_of sorts r) → Good roles cons sorts (rules ++ r ∷ [])
 well_formed_rule roles cons sorts rules r w named few absent fits =
     let old = map (λ (u : Rule). u.name) rules in
     let con_names = map (λ (c : Con). c.name) cons in
@@ -79,7 +82,8 @@ well_formed_rule roles cons sorts rules r w named few absent fits =
     }
 
 -- a rule without fault has a new name
-pub new_name : (roles : List (List ℕ)) (cons : List Con) (sorts : List Sort) (rules : List Rule) (w : WrittenRule) → rule_kind (listed roles cons sorts rules) w ≡ None → stands w.name (map (λ (u : Rule). u.name) rules) ≡ false
+pub new_name : (roles : List (List ℕ)) (cons : List Con) (sorts : List Sort) (rules : List Rule) (w : WrittenRule) →
+    rule_kind (listed roles cons sorts rules) w ≡ None → stands w.name (map (λ (u : Rule). u.name) rules) ≡ false
 new_name roles cons sorts rules w none =
     let tests = none_holds (rule_tests (listed roles cons sorts rules) w) none in
     ap (stands w.name) (names_of_entries sorts rules) ∙ tests.1.1.0
@@ -89,10 +93,14 @@ few_rules roles cons sorts rules w none =
     let d = listed roles cons sorts rules in
     let tests = none_holds (rule_tests d w) none in
     let past = or_parts (is_past_counts d w) (is_past_terms w) tests.0 in
-    let a = or_parts (nat_le most_rules (length d.rules)) (nat_lt most_inherited (length w.patterns) || (nat_lt most_results (length w.results) || (nat_lt most_params (length w.params) || nat_lt most_children (length w.children)))) past.0 in
+    let a = or_parts (nat_le most_rules (length d.rules)) (nat_lt most_inherited (length w.patterns) || (nat_lt most_results (length w.results)
+    || (nat_lt most_params (length w.params) || nat_lt most_children (length w.children)))) past.0 in
     subst (λ n. n < 1024) (length-map rules (entry sorts)) (leb-false most_rules (length d.rules) a.0)
 
-pub good_rule : (roles : List (List ℕ)) (cons : List Con) (sorts : List Sort) (rules : List Rule) (w : WrittenRule) (r : Rule) (new : List Rule) → new ≡ rules ++ r ∷ [] → entry sorts r ≡ entry_of (listed roles cons sorts rules) w → is_name w.name ≡ true → all_have_contents (terms_of w) ≡ true → rule_kind (listed roles cons sorts rules) w ≡ None → ∥ Good roles cons sorts rules ∥₁ → ∥ Good roles cons sorts new ∥₁
+pub good_rule : (roles : List (List ℕ)) (cons : List Con) (sorts : List Sort) (rules : List Rule) (w : WrittenRule) (r : Rule) (new : List Rule) →
+    new ≡ rules ++ r ∷ [] → entry sorts r ≡ entry_of (listed roles cons sorts rules) w → is_name w.name ≡ true →
+    all_have_contents (terms_of w) ≡ true → rule_kind (listed roles cons sorts rules) w ≡ None → ∥ Good roles cons sorts rules ∥₁ →
+    ∥ Good roles cons sorts new ∥₁
 good_rule roles cons sorts rules w r new e made named contents none good =
     let name : r.name ≡ w.name = ap (λ (z : Entry). z.name) made in
     let plain = ap (λ (z : Entry). z.rule) made in
@@ -101,7 +109,9 @@ good_rule roles cons sorts rules w r new e made named contents none good =
     (ap (λ n. stands n (map (λ (u : Rule). u.name) rules)) name ∙ new_name roles cons sorts rules w none)
     (subst (RuleFits (plain_grammar roles cons sorts (rules ++ r ∷ []))) (sym plain) (rule_fits roles cons sorts (rules ++ r ∷ []) w (no_fault roles cons sorts rules w none contents)))))
 
-pub declares_more : (roles : List (List ℕ)) (cons : List Con) (sorts : List Sort) (rules : List Rule) (w : WrittenRule) (r : Rule) (new : List Rule) → new ≡ rules ++ r ∷ [] → entry sorts r ≡ entry_of (listed roles cons sorts rules) w → listed roles cons sorts new ≡ with_rule (listed roles cons sorts rules) w
+pub declares_more : (roles : List (List ℕ)) (cons : List Con) (sorts : List Sort) (rules : List Rule) (w : WrittenRule) (r : Rule) (new : List Rule) →
+    new ≡ rules ++ r ∷ [] → entry sorts r ≡ entry_of (listed roles cons sorts rules) w → listed roles cons sorts new ≡ with_rule
+    (listed roles cons sorts rules) w
 declares_more roles cons sorts rules w r new e made =
     ap (λ es. record { roles = roles; cons = cons; sorts = sorts; rules = es })
     (ap (map (entry sorts)) e ∙ map-append (entry sorts) rules (r ∷ []) ∙ ap (λ z. map (entry sorts) rules ++ z ∷ []) made)

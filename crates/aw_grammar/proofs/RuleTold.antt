@@ -39,7 +39,9 @@ late_case None variables last kind told later = later refl ∙ sym told
 late_case (Some k) variables last kind told later = sym told
 
 -- the last kind is the first fault of the variables where no test of terms holds
-pub late_told : (past : Bool) (names terms variables : List (Bool × DeclKind)) (last kind : DeclKind) → past ≡ false → None ≡ first_told names → (first_told terms ≡ None → first_told variables ≡ Some last) → Some kind ≡ first_told (terms ++ (true, last) ∷ []) → first_told ((past, Limit) ∷ (names ++ (terms ++ variables))) ≡ Some kind
+pub late_told : (past : Bool) (names terms variables : List (Bool × DeclKind)) (last kind : DeclKind) → past ≡ false → None ≡ first_told names →
+    (first_told terms ≡ None → first_told variables ≡ Some last) → Some kind ≡ first_told (terms ++ (true, last) ∷ []) →
+    first_told ((past, Limit) ∷ (names ++ (terms ++ variables))) ≡ Some kind
 late_told past names terms variables last kind fits none later told =
     later_tests past names (terms ++ variables) fits none ∙ first_append terms variables
     ∙ late_case (first_told terms) (first_told variables) last kind (told ∙ first_append terms ((true, last) ∷ [])) later
@@ -48,7 +50,8 @@ pub never_told : (double enter : Bool) → double ≡ false → enter ≡ false 
 never_told double enter h k = ap (λ b. cond b (Some Twice) (cond (not enter) (Some Never) None)) h ∙ ap (λ b. cond (not b) (Some Never) None) k
 
 -- what was found of names
-pub found_variables : (names : List (List ℕ)) (found : Option Variables) (v : Variables) → found ≡ Some v → MatchOption found (has_double names ≡ true) (λ w. (has_double names ≡ false) × (w.names ≡ names)) → (has_double names ≡ false) × (v.names ≡ names)
+pub found_variables : (names : List (List ℕ)) (found : Option Variables) (v : Variables) → found ≡ Some v →
+    MatchOption found (has_double names ≡ true) (λ w. (has_double names ≡ false) × (w.names ≡ names)) → (has_double names ≡ false) × (v.names ≡ names)
 found_variables names None v e h = cc
 found_variables names (Some w) v e h =
     let same : w ≡ v = cc in
@@ -56,7 +59,8 @@ found_variables names (Some w) v e h =
 
 pub few_params : (d : Declarations) (r : WrittenRule) → is_past_counts d r ≡ false → length r.params ≤ most_params
 few_params d r h =
-    let a = or_parts (nat_le most_rules (length d.rules)) (nat_lt most_inherited (length r.patterns) || (nat_lt most_results (length r.results) || (nat_lt most_params (length r.params) || nat_lt most_children (length r.children)))) h in
+    let a = or_parts (nat_le most_rules (length d.rules)) (nat_lt most_inherited (length r.patterns) || (nat_lt most_results (length r.results)
+    || (nat_lt most_params (length r.params) || nat_lt most_children (length r.children)))) h in
     let b = or_parts (nat_lt most_inherited (length r.patterns)) (nat_lt most_results (length r.results) || (nat_lt most_params (length r.params) || nat_lt most_children (length r.children))) a.1 in
     let c = or_parts (nat_lt most_results (length r.results)) (nat_lt most_params (length r.params) || nat_lt most_children (length r.children)) b.1 in
     let e = or_parts (nat_lt most_params (length r.params)) (nat_lt most_children (length r.children)) c.1 in

@@ -26,7 +26,9 @@ one_more depth room deep symbols None d r (inl less) = inl (omega arith)
 one_more depth room deep symbols None d r (inr less) = inr (omega arith)
 one_more depth room deep symbols (Some left) d r fits = (omega (arith, fits.0), omega (arith, fits.1))
 
-pub room_apply : (t : RawTerm) (name : List ℕ) (parts : List RawTerm) → t ≡ raw.Apply name parts → (depth room : ℕ) (result : Option ℕ) → depth ≢ 0 → room ≢ 0 → Leaves (depth - 1) (room - 1) (depth_of_all (map written_of parts)) (symbols_in_all (map written_of parts)) result → Leaves depth room (depth_of (written_of t)) (symbols_in (written_of t)) result
+pub room_apply : (t : RawTerm) (name : List ℕ) (parts : List RawTerm) → t ≡ raw.Apply name parts → (depth room : ℕ) (result : Option ℕ) → depth ≢ 0 →
+    room ≢ 0 → Leaves (depth - 1) (room - 1) (depth_of_all (map written_of parts)) (symbols_in_all (map written_of parts)) result →
+    Leaves depth room (depth_of (written_of t)) (symbols_in (written_of t)) result
 room_apply t name parts e depth room result d r fits =
     subst (λ w. Leaves depth room (depth_of (written_of w)) (symbols_in (written_of w)) result) (sym e)
     (subst (λ n. Leaves depth room n (symbols_in (written_of (raw.Apply name parts))) result) (sym (depth_apply name parts))
@@ -34,7 +36,9 @@ room_apply t name parts e depth room result d r fits =
     (one_more depth room (depth_of_all (map written_of parts)) (symbols_in_all (map written_of parts)) result d r fits)))
 
 -- where one list of terms does not fit, the whole does not
-pub room_stops : (room left deep symbols here_deep here_symbols rest_deep rest_symbols : ℕ) (result : Option ℕ) → result ≡ None → symbols + left ≡ room + (here_symbols + rest_symbols) → max here_deep rest_deep ≤ deep → (32 < here_deep) ⊎ (left < here_symbols) → Leaves 32 room deep symbols result
+pub room_stops : (room left deep symbols here_deep here_symbols rest_deep rest_symbols : ℕ) (result : Option ℕ) → result ≡ None →
+    symbols + left ≡ room + (here_symbols + rest_symbols) → max here_deep rest_deep ≤ deep → (32 < here_deep) ⊎ (left < here_symbols) →
+    Leaves 32 room deep symbols result
 room_stops room left deep symbols here_deep here_symbols rest_deep rest_symbols result none sizes among fails =
     subst (λ r. Leaves 32 room deep symbols r) (sym none) (⊎_elim (λ d. inl (omega arith)) (λ s. inr (omega arith)) fails)
 

@@ -62,5 +62,6 @@ shown_filter sorts q (r ∷ rs) =
     shown_cases sorts b r (filter (λ r. q (rule_of sorts r)) rs) ∙ ap (λ us. cond b (rule_of sorts r ∷ us) us) (shown_filter sorts q rs)
 
 -- they make the plain grammar of those of its rules
-pub shown_some : (roles : List (List ℕ)) (cons : List Con) (sorts : List Sort) (rules : List Rule) (q : P.Rule → Bool) → plain_grammar roles cons sorts (filter (λ r. q (rule_of sorts r)) rules) ≡ some_rules q (plain_grammar roles cons sorts rules)
+pub shown_some : (roles : List (List ℕ)) (cons : List Con) (sorts : List Sort) (rules : List Rule) (q : P.Rule → Bool) →
+    plain_grammar roles cons sorts (filter (λ r. q (rule_of sorts r)) rules) ≡ some_rules q (plain_grammar roles cons sorts rules)
 shown_some roles cons sorts rules q = ap (λ rs. record (plain_grammar roles cons sorts rules) { rules = rs }) (shown_filter sorts q rules)

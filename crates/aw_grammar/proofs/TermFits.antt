@@ -83,12 +83,14 @@ length_names [] = refl
 length_names (k ∷ cons) = ap (λ n. suc n) (length_names cons)
 
 -- a name at its place has the arity that is declared there
-name_fits : (cons : List decl.Con) (x : List ℕ) (n c : ℕ) → place_of x (map (λ (k : decl.Con). k.name) cons) ≡ Some c → has_arity n (con_called x cons) ≡ true → head_fits (map (λ (k : decl.Con). k.arity) cons) (Con c) n ≡ true
+name_fits : (cons : List decl.Con) (x : List ℕ) (n c : ℕ) → place_of x (map (λ (k : decl.Con). k.name) cons) ≡ Some c →
+    has_arity n (con_called x cons) ≡ true → head_fits (map (λ (k : decl.Con). k.arity) cons) (Con c) n ≡ true
 name_fits cons x n c placed h =
     con_fits cons c n (subst (λ m. c < m) (length_names cons) (place_within x (map (λ (k : decl.Con). k.name) cons) c placed))
     (ap (λ o. has_arity n (option_and_then (λ i. slice_get cons i) o)) (sym placed) ∙ h)
 
-word_fits : (cons : List decl.Con) (f : List ℕ → ℕ) (x : List ℕ) (o : Option ℕ) → place_of x (map (λ (k : decl.Con). k.name) cons) ≡ o → has_arity 0 (con_called x cons) ≡ true → heads_fit (map (λ (k : decl.Con). k.arity) cons) (bind (λ y. Leaf (f y)) (word_tree x o)) ≡ true
+word_fits : (cons : List decl.Con) (f : List ℕ → ℕ) (x : List ℕ) (o : Option ℕ) → place_of x (map (λ (k : decl.Con). k.name) cons) ≡ o →
+    has_arity 0 (con_called x cons) ≡ true → heads_fit (map (λ (k : decl.Con). k.arity) cons) (bind (λ y. Leaf (f y)) (word_tree x o)) ≡ true
 word_fits cons f x None placed h = refl
 word_fits cons f x (Some c) placed h = and_from _ true (name_fits cons x 0 c placed h) refl
 
@@ -98,7 +100,9 @@ literal_fits arities (Num n) e = refl
 literal_fits arities (Text t) e = and_from (is_content t) true e refl
 
 mutual
-  numbered_heads : (cons : List decl.Con) (variables : List (List ℕ)) (t : Written) → is_known (map (λ (k : decl.Con). k.name) cons) t ≡ true → has_arities cons t ≡ true → has_contents t ≡ true → heads_fit (map (λ (k : decl.Con). k.arity) cons) (numbered (map (λ (k : decl.Con). k.name) cons) variables t) ≡ true
+  numbered_heads : (cons : List decl.Con) (variables : List (List ℕ)) (t : Written) → is_known (map (λ (k : decl.Con). k.name) cons) t ≡ true →
+      has_arities cons t ≡ true → has_contents t ≡ true → heads_fit (map (λ (k : decl.Con). k.arity) cons)
+      (numbered (map (λ (k : decl.Con). k.name) cons) variables t) ≡ true
   numbered_heads cons variables (Word x) known arity content = word_fits cons (λ y. number_of y variables) x (place_of x (map (λ (k : decl.Con). k.name) cons)) refl arity
   numbered_heads cons variables (Apply x ts) known arity content =
       let names = map (λ (k : decl.Con). k.name) cons in
@@ -112,7 +116,9 @@ mutual
       (parts_heads cons variables ts k.1 a.1 content)
   numbered_heads cons variables (Literal h) known arity content = literal_fits (map (λ (k : decl.Con). k.arity) cons) h content
 
-  parts_heads : (cons : List decl.Con) (variables : List (List ℕ)) (ts : Writtens) → parts_are_known (map (λ (k : decl.Con). k.name) cons) ts ≡ true → parts_have_arities cons ts ≡ true → parts_have_contents ts ≡ true → all_heads_fit (map (λ (k : decl.Con). k.arity) cons) (numbered_parts (map (λ (k : decl.Con). k.name) cons) variables ts) ≡ true
+  parts_heads : (cons : List decl.Con) (variables : List (List ℕ)) (ts : Writtens) → parts_are_known (map (λ (k : decl.Con). k.name) cons) ts ≡ true →
+      parts_have_arities cons ts ≡ true → parts_have_contents ts ≡ true → all_heads_fit (map (λ (k : decl.Con). k.arity) cons)
+      (numbered_parts (map (λ (k : decl.Con). k.name) cons) variables ts) ≡ true
   parts_heads cons variables Empty known arity content = refl
   parts_heads cons variables (Then t ts) known arity content =
       let names = map (λ (k : decl.Con). k.name) cons in
@@ -129,7 +135,8 @@ pub record Sound (cons : List decl.Con) (ts : List Written) : Type 0 where
   pub shallow : depth_of_all ts ≤ 32
 
 -- each of them stands for a term that fits
-pub sound_fit : (cons : List decl.Con) (variables : List (List ℕ)) (ts : List Written) → Sound cons ts → Each (TermFits (map (λ (k : decl.Con). k.arity) cons)) (map (numbered (map (λ (k : decl.Con). k.name) cons) variables) ts)
+pub sound_fit : (cons : List decl.Con) (variables : List (List ℕ)) (ts : List Written) → Sound cons ts →
+    Each (TermFits (map (λ (k : decl.Con). k.arity) cons)) (map (numbered (map (λ (k : decl.Con). k.name) cons) variables) ts)
 sound_fit cons variables [] s = tt
 sound_fit cons variables (t ∷ ts) s =
     let names = map (λ (k : decl.Con). k.name) cons in

@@ -45,11 +45,14 @@ binds_side : (cons variables : List (List ℕ)) (ts : List Written) → binds (�
 binds_side cons variables [] = refl
 binds_side cons variables (t ∷ ts) = ap (More (numbered cons variables t)) (binds_side cons variables ts)
 
-pub numbered_apply : (cons variables : List (List ℕ)) (name : List ℕ) (ts : List RawTerm) → numbered cons variables (written_of (raw.Apply name ts)) ≡ Made (Con (number_of name cons)) (join (map (numbered cons variables) (map written_of ts)))
+pub numbered_apply : (cons variables : List (List ℕ)) (name : List ℕ) (ts : List RawTerm) → numbered cons variables
+    (written_of (raw.Apply name ts)) ≡ Made (Con (number_of name cons)) (join (map (numbered cons variables) (map written_of ts)))
 numbered_apply cons variables name ts =
     ap (numbered cons variables) (written_apply name ts) ∙ ap (Made (Con (number_of name cons))) (binds_side cons variables (map written_of ts))
 
-pub pushed_apply : {E : Type 0} (cons : List (List ℕ)) (t : RawTerm) (name : List ℕ) (parts : List RawTerm) → t ≡ raw.Apply name parts → (old new : List (List ℕ)) (result : Result (Unit {0}) E) → OnOk result (new ≡ old ++ leaves_of (all_resolved cons (map written_of parts))) → OnOk result (new ≡ old ++ leaves (resolved cons (written_of t)))
+pub pushed_apply : {E : Type 0} (cons : List (List ℕ)) (t : RawTerm) (name : List ℕ) (parts : List RawTerm) → t ≡ raw.Apply name parts →
+    (old new : List (List ℕ)) (result : Result (Unit {0}) E) → OnOk result (new ≡ old ++ leaves_of (all_resolved cons (map written_of parts))) →
+    OnOk result (new ≡ old ++ leaves (resolved cons (written_of t)))
 pushed_apply cons t name parts e old new (Err x) h = tt
 pushed_apply cons t name parts e old new (Ok u) h = h ∙ ap (λ xs. old ++ xs) (sym (ap (λ w. leaves (resolved cons (written_of w))) e ∙ leaves_apply cons name parts))
 
@@ -61,7 +64,8 @@ arities_side : (cons : List decl.Con) (ts : List Written) → parts_have_arities
 arities_side cons [] = refl
 arities_side cons (t ∷ ts) = ap (λ b. has_arities cons t && b) (arities_side cons ts)
 
-pub arities_apply : (cons : List decl.Con) (name : List ℕ) (ts : List RawTerm) → has_arities cons (written_of (raw.Apply name ts)) ≡ (has_arity (length ts) (con_called name cons) && all_have_arities cons (map written_of ts))
+pub arities_apply : (cons : List decl.Con) (name : List ℕ) (ts : List RawTerm) → has_arities cons (written_of (raw.Apply name ts)) ≡ (has_arity
+    (length ts) (con_called name cons) && all_have_arities cons (map written_of ts))
 arities_apply cons name ts =
     ap (has_arities cons) (written_apply name ts)
     ∙ ap (λ n. has_arity n (con_called name cons) && parts_have_arities cons (side_by_side (map written_of ts))) (count_side (map written_of ts) ∙ length-map ts written_of)

@@ -31,7 +31,8 @@ room_first dp da dr sp sa sr deep symbols d s fails = ⊎_elim (λ h. inl (omega
 pub room_second : (dp da dr sp sa sr deep symbols left : ℕ) → deep ≡ max dp (max da dr) → symbols ≡ sp + (sa + sr) → left + sp ≡ 256 → (32 < da) ⊎ (left < sa) → (32 < deep) ⊎ (256 < symbols)
 room_second dp da dr sp sa sr deep symbols left d s l fails = ⊎_elim (λ h. inl (omega arith)) (λ h. inr (omega arith)) fails
 
-pub room_last : (dp da dr sp sa sr deep symbols left rest : ℕ) (result : Option ℕ) → deep ≡ max dp (max da dr) → symbols ≡ sp + (sa + sr) → dp ≤ 32 → left + sp ≡ 256 → da ≤ 32 → rest + sa ≡ left → Leaves 32 rest dr sr result → Leaves 32 256 deep symbols result
+pub room_last : (dp da dr sp sa sr deep symbols left rest : ℕ) (result : Option ℕ) → deep ≡ max dp (max da dr) → symbols ≡ sp + (sa + sr) → dp ≤ 32 →
+    left + sp ≡ 256 → da ≤ 32 → rest + sa ≡ left → Leaves 32 rest dr sr result → Leaves 32 256 deep symbols result
 room_last dp da dr sp sa sr deep symbols left rest None d s p l a m (inl h) = inl (omega arith)
 room_last dp da dr sp sa sr deep symbols left rest None d s p l a m (inr h) = inr (omega arith)
 room_last dp da dr sp sa sr deep symbols left rest (Some n) d s p l a m h = (omega (arith, h.0), omega (arith, h.1))

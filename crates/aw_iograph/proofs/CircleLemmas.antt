@@ -90,7 +90,8 @@ module _ (r : P.Rule) (rel : ℕ → ℕ → ℕ → Type 0) (rows : List ℕ) (
   least (Some o) (n, lt, at, on, first) = subst (λ (x : Occ). LeastOnCircle rel r (Some x)) (sym at) (least_some n lt on first)
 
 -- the first inherited value that is in its own row is the least occurrence on a circle
-pub least_circle : (r s : P.Rule) (rel : ℕ → ℕ → ℕ → Type 0) (rows slice : List ℕ) (found : Option Occ) → r ≡ s → slice ≡ rows → HasEachWalk r rel rows → HasOnlyWalks r rel rows → FirstInOwnRow slice found → LeastOnCircle rel s found
+pub least_circle : (r s : P.Rule) (rel : ℕ → ℕ → ℕ → Type 0) (rows slice : List ℕ) (found : Option Occ) → r ≡ s → slice ≡ rows →
+    HasEachWalk r rel rows → HasOnlyWalks r rel rows → FirstInOwnRow slice found → LeastOnCircle rel s found
 least_circle r s rel rows slice found same at there only first =
     subst (λ (x : P.Rule). LeastOnCircle rel x found) same (least r rel rows there only found (subst (λ (xs : List ℕ). FirstInOwnRow xs found) at first))
 

@@ -96,9 +96,11 @@ module _ (pairs : List Pair) where
   at_child : (k s i j : ℕ) (ps : List Pair) → Holds ps s i j → Member (record { from = inherited k i; to = given k j }) (calls_at k s ps)
   at_child k s i j [] m = never m
   at_child k s i j (p ∷ ps) (inl e) =
-      cond_left (nat_eq p.sort s) (record { from = inherited k i; to = given k j }) (record { from = inherited k p.i; to = given k p.j }) (calls_at k s ps) (eq-eqb p.sort s (sym (ap (λ (p : Pair). p.sort) e)))
+      cond_left (nat_eq p.sort s) (record { from = inherited k i; to = given k j }) (record { from = inherited k p.i; to = given k p.j })
+      (calls_at k s ps) (eq-eqb p.sort s (sym (ap (λ (p : Pair). p.sort) e)))
       (λ n. record { from = inherited k (e n).i; to = given k (e n).j })
-  at_child k s i j (p ∷ ps) (inr m) = cond_right (nat_eq p.sort s) (record { from = inherited k i; to = given k j }) (record { from = inherited k p.i; to = given k p.j }) (calls_at k s ps) (at_child k s i j ps m)
+  at_child k s i j (p ∷ ps) (inr m) = cond_right (nat_eq p.sort s) (record { from = inherited k i; to = given k j })
+      (record { from = inherited k p.i; to = given k p.j }) (calls_at k s ps) (at_child k s i j ps m)
 
   at_children : (cs : List Child) (n k i j : ℕ) (c : Child) → slice_get cs k ≡ Some c → Holds pairs c.sort i j → Member (record { from = inherited (n + k) i; to = given (n + k) j }) (calls pairs n cs)
   at_children [] n k i j c e x = absurd cc

@@ -1,5 +1,6 @@
 -- Rows of bits that are joined over arcs.
-use Rattle.std.proofs.Common.{◌≡◌, ◌≢◌, ℕ, zero, suc, ◌+◌, ◌^◌, ◌<◌, ◌≤◌, max, Bool, true, false, List, [], ◌∷◌, length, Some, slice_get, slice_set, slice_index, refl, sym, ap, ◌∙◌, subst, inl, inr, get_or, arith}
+use Rattle.std.proofs.Common.{◌≡◌, ◌≢◌, ℕ, zero, suc, ◌+◌, ◌^◌, ◌<◌, ◌≤◌, max, Bool, true, false, List, [], ◌∷◌, length, Some, slice_get, slice_set}
+use Rattle.std.proofs.Common.{slice_index, refl, sym, ap, ◌∙◌, subst, inl, inr, get_or, arith}
 use Rattle.std.specs.Prelude.{◌⊎◌, ◌||◌, ◌*◌, ◌-◌, ◌/◌, ◌%◌, bit_or, bit_and, nat_eq, IsTrue, replicate, not}
 use Rattle.std.specs.Int.{bit_at}
 use Rattle.std.proofs.lemmas.Bool.{or_parts}
@@ -84,7 +85,8 @@ bit_by x zero p few pos e = let none : x ≡ 0 = omega arith in (λ on. grind (a
 bit_by x (suc zero) p few pos e = let some : 0 < x = omega arith in (λ on. refl, λ one. grind (arith, some))
 bit_by x (suc (suc d)) p few pos e = absurd (omega arith)
 
-pub bit_test : (row bit : ℕ) → bit < 128 → (IsTrue (not (nat_eq (bit_and row (1 * 2 ^ bit % 2 ^ 128)) 0)) → HasBit row bit) × (HasBit row bit → IsTrue (not (nat_eq (bit_and row (1 * 2 ^ bit % 2 ^ 128)) 0)))
+pub bit_test : (row bit : ℕ) → bit < 128 → (IsTrue (not (nat_eq (bit_and row (1 * 2 ^ bit % 2 ^ 128)) 0)) → HasBit row bit)
+    × (HasBit row bit → IsTrue (not (nat_eq (bit_and row (1 * 2 ^ bit % 2 ^ 128)) 0)))
 bit_test row bit few =
     bit_by (bit_and row (1 * 2 ^ bit % 2 ^ 128)) (bit_at row bit) (2 ^ bit) (bit_at-lt row bit) (pow_pos bit)
     (ap (bit_and row) (one_shl bit 128 few) ∙ and_pow row bit)
@@ -137,7 +139,8 @@ handed_on rows v row own within here is_own n = (to, from)
     from (inr was) = or_left row own n (subst (λ m. HasBit m n) (sym at) was)
 
 -- what a place hands on is joined into the row where an arc ends
-module _ (rows : List ℕ) (from at row other : ℕ) (at_in : at < length rows) (here : row ≡ get_or rows at row) (handed : (n : ℕ) → (HasBit other n → IsHandedOn rows from n) × (IsHandedOn rows from n → HasBit other n)) where
+module _ (rows : List ℕ) (from at row other : ℕ) (at_in : at < length rows) (here : row ≡ get_or rows at row) (handed : (n : ℕ) →
+    (HasBit other n → IsHandedOn rows from n) × (IsHandedOn rows from n → HasBit other n)) where
   row_at : row ≡ slice_index rows at
   row_at = here ∙ get_or_default_zero rows at row at_in
 
@@ -254,7 +257,8 @@ joins_same rows marks arc lt j = record {
 }
 
 -- an arc over which a row grew
-pub joins_grown : (rows next : List ℕ) (marks : List Bool) (arc : Arc) (again : Bool) → arc.from < length marks → length next ≡ length rows → again ≡ get_or (slice_set marks arc.from true) arc.to again →
+pub joins_grown : (rows next : List ℕ) (marks : List Bool) (arc : Arc) (again : Bool) → arc.from < length marks → length next ≡ length rows →
+    again ≡ get_or (slice_set marks arc.from true) arc.to again →
     ((v i : ℕ) → IsIn rows v i → IsIn next v i) → room next < room rows → IsJoined next arc →
     ((v i : ℕ) → IsIn next v i → IsIn rows v i ⊎ ((v ≡ arc.to) × IsHandedOn rows arc.from i)) → Joins (λ a. a ≡ arc) rows next marks (slice_set marks arc.from true) again
 joins_grown rows next marks arc again lt size here kept less j only = record {
@@ -268,7 +272,8 @@ joins_grown rows next marks arc again lt size here kept less j only = record {
     | inl own ↦ kept a.to i (k i (inl own))
     | inr now ↦ elim (only a.from i now) [
       | inl was ↦ kept a.to i (k i (inr was))
-      | inr how ↦ (let seen : again ≡ true = here ∙ marked_got (slice_set marks arc.from true) arc.to again (subst (λ n. Marked (slice_set marks arc.from true) n) how.0 (set_kept marks arc.from a.from m)) in
+      | inr how ↦ (let seen : again ≡ true = here ∙ marked_got (slice_set marks arc.from true) arc.to again
+          (subst (λ n. Marked (slice_set marks arc.from true) n) how.0 (set_kept marks arc.from a.from m)) in
           let never' : true ≡ false = sym seen ∙ off in absurd cc)
     ]
   ];
@@ -288,7 +293,8 @@ pub none_among : (arcs : List Arc) (rows : List ℕ) (marks : List Bool) → Joi
 none_among arcs rows marks = joins_none (IsAmong arcs 0) rows marks (λ a (k, lt, got). omega arith)
 
 -- one more arc
-pub joins_next : (arcs : List Arc) (n : ℕ) (arc : Arc) (a b c : List ℕ) (x y z : List Bool) (one two both : Bool) → slice_get arcs n ≡ Some arc → both ≡ (two || one) → Joins (IsAmong arcs n) a b x y one → Joins (λ e. e ≡ arc) b c y z two → Joins (IsAmong arcs (n + 1)) a c x z both
+pub joins_next : (arcs : List Arc) (n : ℕ) (arc : Arc) (a b c : List ℕ) (x y z : List Bool) (one two both : Bool) → slice_get arcs n ≡ Some arc →
+    both ≡ (two || one) → Joins (IsAmong arcs n) a b x y one → Joins (λ e. e ≡ arc) b c y z two → Joins (IsAmong arcs (n + 1)) a c x z both
 joins_next arcs n arc a b c x y z one two both here e first then = joins_both (IsAmong arcs n) (λ e. e ≡ arc) (IsAmong arcs (n + 1)) a b c x y z one two both e first then split left right
   where
     split : (e : Arc) → IsAmong arcs (n + 1) e → IsAmong arcs n e ⊎ (e ≡ arc)
@@ -305,7 +311,8 @@ joins_next arcs n arc a b c x y z one two both here e first then = joins_both (I
 
 -- each arc stands among all
 pub joins_all : (arcs : List Arc) (n : ℕ) (a b : List ℕ) (x y : List Bool) (again : Bool) → length arcs ≤ n → Joins (IsAmong arcs n) a b x y again → Joins (λ e. Member e arcs) a b x y again
-joins_all arcs n a b x y again le all = joins_as (IsAmong arcs n) (λ e. Member e arcs) a b x y again (λ e (k, lt, got). member_got arcs k e got) (λ e m. let (k, lt, got) = member_place arcs e m in (k, omega arith, got)) all
+joins_all arcs n a b x y again le all = joins_as (IsAmong arcs n) (λ e. Member e arcs) a b x y again (λ e (k, lt, got). member_got arcs k e got)
+    (λ e m. let (k, lt, got) = member_place arcs e m in (k, omega arith, got)) all
 
 -- rows that are led still are once they were joined
 pub led_next : (P : Arc → Type 0) (rows next : List ℕ) (x y : List Bool) (again : Bool) → AreLed P rows → Joins P rows next x y again → AreLed P next

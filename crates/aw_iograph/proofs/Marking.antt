@@ -33,7 +33,25 @@ grown_set marks at lt e = record {
 }
 
 pub grown_trans : (a b c : List Bool) (x y z : Bool) → z ≡ (y || x) → Grown a b x → Grown b c y → Grown a c z
-grown_trans a b c true true z e p q = record { size = q.size ∙ p.size; kept = λ k m. q.kept k (p.kept k m); same = λ off. cc; fewer = λ on. let one = p.fewer refl in let two = q.fewer refl in omega arith }
-grown_trans a b c true false z e p q = record { size = q.size ∙ p.size; kept = λ k m. q.kept k (p.kept k m); same = λ off. cc; fewer = λ on. subst (λ (m : List Bool). unset m < unset a) (sym (q.same refl)) (p.fewer refl) }
-grown_trans a b c false true z e p q = record { size = q.size ∙ p.size; kept = λ k m. q.kept k (p.kept k m); same = λ off. cc; fewer = λ on. subst (λ (m : List Bool). unset c < unset m) (p.same refl) (q.fewer refl) }
+grown_trans a b c true true z e p q = record {
+  size = q.size ∙ p.size;
+  kept = λ k m. q.kept k (p.kept k m);
+  same = λ off. cc;
+  fewer = λ on. let one =
+      p.fewer refl in let two = q.fewer refl in omega arith;
+}
+grown_trans a b c true false z e p q = record {
+  size = q.size ∙ p.size;
+  kept = λ k m. q.kept k (p.kept k m);
+  same = λ off. cc;
+  fewer =
+      λ on. subst (λ (m : List Bool). unset m < unset a) (sym (q.same refl)) (p.fewer refl);
+}
+grown_trans a b c false true z e p q = record {
+  size = q.size ∙ p.size;
+  kept = λ k m. q.kept k (p.kept k m);
+  same = λ off. cc;
+  fewer =
+      λ on. subst (λ (m : List Bool). unset c < unset m) (p.same refl) (q.fewer refl);
+}
 grown_trans a b c false false z e p q = record { size = q.size ∙ p.size; kept = λ k m. q.kept k (p.kept k m); same = λ off. q.same refl ∙ p.same refl; fewer = λ on. cc }

@@ -1,5 +1,6 @@
 -- Each occurrence of a rule has its place.
-use Rattle.std.proofs.Common.{◌≡◌, ℕ, zero, suc, ◌+◌, ◌*◌, ◌-◌, ◌<◌, ◌≤◌, Bool, true, false, List, [], ◌∷◌, ◌++◌, map, length, replicate, Some, None, slice_get, refl, sym, ap, ◌∙◌, subst, inl, inr, arith}
+use Rattle.std.proofs.Common.{◌≡◌, ℕ, zero, suc, ◌+◌, ◌*◌, ◌-◌, ◌<◌, ◌≤◌, Bool, true, false, List, [], ◌∷◌, ◌++◌, map, length, replicate, Some, None}
+use Rattle.std.proofs.Common.{slice_get, refl, sym, ap, ◌∙◌, subst, inl, inr, arith}
 use Rattle.std.specs.Prelude.{if◌then◌else◌}
 use Rattle.std.proofs.lemmas.Option.{same_Some, slice_get_within}
 use Rattle.aw_list.specs.Members.{Member}
@@ -100,7 +101,9 @@ same_parts k l false true i j a p b q e = absurd (omega arith)
 pub place_one : (o u : Occ) → IsPlace o → IsPlace u → place_of o ≡ place_of u → o ≡ u
 place_one o u p q e =
     let (a, b, c) = same_parts o.child u.child o.result u.result o.number u.number p.counted p.number q.counted q.number e in
-    ap (λ (k : ℕ). record { child = k; result = o.result; number = o.number }) a ∙ ap (λ (x : Bool). record { child = u.child; result = x; number = o.number }) b ∙ ap (λ (n : ℕ). record { child = u.child; result = u.result; number = n }) c
+    ap (λ (k : ℕ). record { child = k; result = o.result; number = o.number }) a
+    ∙ ap (λ (x : Bool). record { child = u.child; result = x; number = o.number }) b
+    ∙ ap (λ (n : ℕ). record { child = u.child; result = u.result; number = n }) c
 
 pub number_place : (b : Bool) (i : ℕ) → 0 < i → i ≤ 8 → IsPlace (record { child = 0; result = b; number = i })
 number_place b i pos few = record { child = omega arith; counted = pos; number = few }

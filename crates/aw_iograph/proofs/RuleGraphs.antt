@@ -47,7 +47,9 @@ steps_of sorts r io few = record { there = there; only = only; places = λ o u e
     flow_there f m = elim (member_split f (child_flows es 1 (rule_of sorts r).children) last m) [
       | inl a ↦ (let (k, c, got, w) = child_only es (rule_of sorts r).children 1 f a in
           let (d, here, same) = got_unmap (child_of sorts) r.children k c got in let at : 1 + k ≡ suc k = omega arith in
-          let flow : Member f (term_flows es (suc k) false 1 (map term_of d.args)) = subst (λ n. Member f (term_flows es n false 1 (map term_of d.args))) at (subst (λ (x : P.Child). Member f (term_flows es (1 + k) false 1 x.args)) same w) in
+          let flow : Member f (term_flows es (suc k) false 1 (map term_of d.args)) =
+          subst (λ n. Member f (term_flows es n false 1 (map term_of d.args))) at
+          (subst (λ (x : P.Child). Member f (term_flows es (1 + k) false 1 x.args)) same w) in
           inl (k, d, slice_get_within r.children k d here, here, inl (f, flow, refl)))
       | inr b ↦ inr (f, b, refl)
     ]
@@ -60,7 +62,8 @@ steps_of sorts r io few = record { there = there; only = only; places = λ o u e
         subst (λ (n : ℕ). IsStep es io r.children r.results (call_arc n i l)) (sym at)
         (inl (j, d, slice_get_within r.children j d here, here, inr (i, l, (subst (λ (x : P.Child). Has io x.sort i l) same h, refl))))
 
-    flow_only : (a : Arc) (f : Flow) → Member f (text_flows (rule_of sorts r)) → a ≡ arc_of f → (o : Occ) × (u : Occ) × IsPlace o × IsPlace u × Edge (rule_of sorts r) (Has io) o u × (a ≡ arc_of (record { from = o; to = u }))
+    flow_only : (a : Arc) (f : Flow) → Member f (text_flows (rule_of sorts r)) → a ≡ arc_of f → (o : Occ) × (u : Occ) × IsPlace o × IsPlace u
+        × Edge (rule_of sorts r) (Has io) o u × (a ≡ arc_of (record { from = o; to = u }))
     flow_only a f m e =
         let (v, t, g, h, x) = flows_only (rule_of sorts r) f m in
         (f.from, f.to, entry_place (rule_of sorts r) v f.from few g, term_place (rule_of sorts r) t f.to few h, text v t g h x, e)
@@ -79,7 +82,8 @@ steps_of sorts r io few = record { there = there; only = only; places = λ o u e
     only a (inr (f, m, e)) = flow_only a f (member_right f (child_flows es 1 (rule_of sorts r).children) last m) e
 
 -- the same where the entries are given by an equation
-pub steps_from : (sorts : List Sort) (r : Rule) (io : Io) (es : List (Option Occ)) → HasFew (rule_of sorts r) → es ≡ entries (rule_of sorts r) → IsGraphBy (rule_of sorts r) (Has io) (IsStep es io r.children r.results)
+pub steps_from : (sorts : List Sort) (r : Rule) (io : Io) (es : List (Option Occ)) → HasFew (rule_of sorts r) → es ≡ entries (rule_of sorts r) →
+    IsGraphBy (rule_of sorts r) (Has io) (IsStep es io r.children r.results)
 steps_from sorts r io es few e = subst (λ (x : List (Option Occ)). IsGraphBy (rule_of sorts r) (Has io) (IsStep x io r.children r.results)) (sym e) (steps_of sorts r io few)
 
 pub graph_within : (r : P.Rule) (rel : ℕ → ℕ → ℕ → Type 0) (kind : Arc → Type 0) → IsGraphBy r rel kind → ArePlaced kind
@@ -92,21 +96,24 @@ pub walk_arcs : (r : P.Rule) (rel : ℕ → ℕ → ℕ → Type 0) (kind : Arc 
 walk_arcs r rel kind g (step e) = step (g.there _ _ e)
 walk_arcs r rel kind g (more e w) = more (g.there _ _ e) (walk_arcs r rel kind g w)
 
-back_step : (r : P.Rule) (rel : ℕ → ℕ → ℕ → Type 0) (kind : Arc → Type 0) → IsGraphBy r rel kind → {a b : ℕ} → (o : Occ) → IsPlace o → a ≡ place_of o → ArrowOf kind a b → (u : Occ) × IsPlace u × (b ≡ place_of u) × Edge r rel o u
+back_step : (r : P.Rule) (rel : ℕ → ℕ → ℕ → Type 0) (kind : Arc → Type 0) → IsGraphBy r rel kind → {a b : ℕ} → (o : Occ) → IsPlace o →
+    a ≡ place_of o → ArrowOf kind a b → (u : Occ) × IsPlace u × (b ≡ place_of u) × Edge r rel o u
 back_step r rel kind g {a = a} {b = b} o p at m =
     let (x, u, px, pu, e, same) = g.only (record { from = a; to = b }) m in
     let from : a ≡ place_of x = ap (λ (y : Arc). y.from) same in
     let one : x ≡ o = place_one x o px p (sym from ∙ at) in
     (u, pu, ap (λ (y : Arc). y.to) same, subst (λ (y : Occ). Edge r rel y u) one e)
 
-back_walk : (r : P.Rule) (rel : ℕ → ℕ → ℕ → Type 0) (kind : Arc → Type 0) → IsGraphBy r rel kind → {a b : ℕ} → (o : Occ) → IsPlace o → a ≡ place_of o → Plus (ArrowOf kind) a b → (u : Occ) × IsPlace u × (b ≡ place_of u) × Plus (Edge r rel) o u
+back_walk : (r : P.Rule) (rel : ℕ → ℕ → ℕ → Type 0) (kind : Arc → Type 0) → IsGraphBy r rel kind → {a b : ℕ} → (o : Occ) → IsPlace o →
+    a ≡ place_of o → Plus (ArrowOf kind) a b → (u : Occ) × IsPlace u × (b ≡ place_of u) × Plus (Edge r rel) o u
 back_walk r rel kind g o p at (step m) = let (u, q, e, s) = back_step r rel kind g o p at m in (u, q, e, step s)
 back_walk r rel kind g o p at (more m w) =
     let (v, q, e, s) = back_step r rel kind g o p at m in
     let (u, x, f, t) = back_walk r rel kind g v q e w in (u, x, f, more s t)
 
 -- a walk over the arcs is one of the rule
-pub arcs_walk : (r : P.Rule) (rel : ℕ → ℕ → ℕ → Type 0) (kind : Arc → Type 0) → IsGraphBy r rel kind → (o u : Occ) → IsPlace o → IsPlace u → Plus (ArrowOf kind) (place_of o) (place_of u) → Plus (Edge r rel) o u
+pub arcs_walk : (r : P.Rule) (rel : ℕ → ℕ → ℕ → Type 0) (kind : Arc → Type 0) → IsGraphBy r rel kind → (o u : Occ) → IsPlace o → IsPlace u →
+    Plus (ArrowOf kind) (place_of o) (place_of u) → Plus (Edge r rel) o u
 arcs_walk r rel kind g o u p q w =
     let (v, x, e, s) = back_walk r rel kind g o p refl w in subst (λ (y : Occ). Plus (Edge r rel) o y) (place_one v u x q (sym e)) s
 

@@ -57,7 +57,8 @@ pub early_none : (io : Io) (s k : ℕ) (x : Arc) → IsEarly io s k 0 x → ⊥
 early_none io s k x (i, l, p, q) = let none = p.before in omega arith
 
 -- an arc of the first children and the next one is of that one, or of those before
-pub child_split : (es : List (Option Occ)) (io : Io) (cs : List Child) (n : ℕ) (c : Child) → slice_get cs n ≡ Some c → (x : Arc) → IsOfChildren es io cs (n + 1) x → IsOfChildren es io cs n x ⊎ IsOfChild es io (n + 1) c x
+pub child_split : (es : List (Option Occ)) (io : Io) (cs : List Child) (n : ℕ) (c : Child) → slice_get cs n ≡ Some c → (x : Arc) →
+    IsOfChildren es io cs (n + 1) x → IsOfChildren es io cs n x ⊎ IsOfChild es io (n + 1) c x
 child_split es io cs n c here x (k, e, lt, got, q) = elim (below_or_at k n lt) [
   | inl less ↦ inl (k, e, less, got, q)
   | inr same ↦ (let what : Some e ≡ Some c = sym got ∙ ap (slice_get cs) same ∙ here in

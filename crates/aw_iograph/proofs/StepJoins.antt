@@ -1,5 +1,6 @@
 -- Rows that are joined over the steps of a rule.
-use Rattle.std.proofs.Common.{◌≡◌, ℕ, zero, suc, ◌+◌, ◌*◌, ◌-◌, ◌/◌, ◌%◌, ◌<◌, ◌≤◌, Bool, true, false, List, [], ◌∷◌, map, length, get_or, Option, Some, slice_get, refl, sym, ap, ◌∙◌, subst, inl, inr, arith}
+use Rattle.std.proofs.Common.{◌≡◌, ℕ, zero, suc, ◌+◌, ◌*◌, ◌-◌, ◌/◌, ◌%◌, ◌<◌, ◌≤◌, Bool, true, false, List, [], ◌∷◌, map, length, get_or, Option, Some}
+use Rattle.std.proofs.Common.{slice_get, refl, sym, ap, ◌∙◌, subst, inl, inr, arith}
 use Rattle.std.specs.Prelude.{◌||◌}
 use Rattle.std.proofs.lemmas.List.{length-map}
 use Rattle.std.proofs.lemmas.Option.{same_Some, slice_get_within}
@@ -46,19 +47,23 @@ pub child_in : (es : List (Option Occ)) (io : Io) (cs : List Child) (n : ℕ) (c
 child_in es io cs n c here x q = let at : n + 1 ≡ suc n = omega arith in (n, c, slice_get_within cs n c here, here, subst (λ m. IsOfChild es io m c x) at q)
 
 -- one more flow
-pub joins_flow : (flows : List Flow) (n : ℕ) (f : Flow) (arc : Arc) (a b c : List ℕ) (x y z : List Bool) (one two both : Bool) → slice_get flows n ≡ Some f → arc ≡ arc_of f → both ≡ (two || one) → Joins (IsAmong (map arc_of flows) n) a b x y one → Joins (λ e. e ≡ arc) b c y z two → Joins (IsAmong (map arc_of flows) (n + 1)) a c x z both
+pub joins_flow : (flows : List Flow) (n : ℕ) (f : Flow) (arc : Arc) (a b c : List ℕ) (x y z : List Bool) (one two both : Bool) →
+    slice_get flows n ≡ Some f → arc ≡ arc_of f → both ≡ (two || one) → Joins (IsAmong (map arc_of flows) n) a b x y one → Joins (λ e. e ≡ arc) b c y
+    z two → Joins (IsAmong (map arc_of flows) (n + 1)) a c x z both
 joins_flow flows n f arc a b c x y z one two both here same e first then =
     joins_next (map arc_of flows) n arc a b c x y z one two both (got_map arc_of flows n f here ∙ ap Some (sym same)) e first then
 
 -- all flows
-pub joins_flows : (flows : List Flow) (n : ℕ) (a b : List ℕ) (x y : List Bool) (again : Bool) → length flows ≤ n → Joins (IsAmong (map arc_of flows) n) a b x y again → Joins (IsFlow flows) a b x y again
+pub joins_flows : (flows : List Flow) (n : ℕ) (a b : List ℕ) (x y : List Bool) (again : Bool) → length flows ≤ n →
+    Joins (IsAmong (map arc_of flows) n) a b x y again → Joins (IsFlow flows) a b x y again
 joins_flows flows n a b x y again le all =
     joins_as (λ e. Member e (map arc_of flows)) (IsFlow flows) a b x y again (λ e m. member_unmap arc_of e flows m)
     (λ e (f, m, same). subst (λ (w : Arc). Member w (map arc_of flows)) (sym same) (member_map arc_of f flows m))
     (joins_all (map arc_of flows) n a b x y again (subst (λ k. k ≤ n) (sym (length-map flows arc_of)) le) all)
 
 -- the arc of a pair that is marked
-pub joins_call : (marked : Bool) (k i l : ℕ) (arc : Arc) (a b : List ℕ) (x y : List Bool) (again : Bool) → marked ≡ true → arc ≡ call_arc k i l → Joins (λ e. e ≡ arc) a b x y again → Joins (IsMarkedCall marked k i l) a b x y again
+pub joins_call : (marked : Bool) (k i l : ℕ) (arc : Arc) (a b : List ℕ) (x y : List Bool) (again : Bool) → marked ≡ true → arc ≡ call_arc k i l →
+    Joins (λ e. e ≡ arc) a b x y again → Joins (IsMarkedCall marked k i l) a b x y again
 joins_call marked k i l arc a b x y again on same all = joins_as (λ e. e ≡ arc) (IsMarkedCall marked k i l) a b x y again (λ e one. (on, one ∙ same)) (λ e q. q.1 ∙ sym same) all
 
 -- before the first pair there is none
@@ -66,9 +71,11 @@ pub joins_no_pair : (io : Io) (s k : ℕ) (a : List ℕ) (x : List Bool) → Joi
 joins_no_pair io s k a x = joins_none (IsEarly io s k 0) a x (early_none io s k)
 
 -- one more pair
-pub joins_pair : (io : Io) (s k n : ℕ) (a b c : List ℕ) (x y z : List Bool) (one two both : Bool) → both ≡ (two || one) → Joins (IsEarly io s k n) a b x y one → Joins (IsCallOf io s k (n / 8 + 1) (n % 8 + 1)) b c y z two → Joins (IsEarly io s k (n + 1)) a c x z both
+pub joins_pair : (io : Io) (s k n : ℕ) (a b c : List ℕ) (x y z : List Bool) (one two both : Bool) → both ≡ (two || one) → Joins (IsEarly io s k n) a b
+    x y one → Joins (IsCallOf io s k (n / 8 + 1) (n % 8 + 1)) b c y z two → Joins (IsEarly io s k (n + 1)) a c x z both
 joins_pair io s k n a b c x y z one two both e first then =
-    joins_both (IsEarly io s k n) (IsCallOf io s k (n / 8 + 1) (n % 8 + 1)) (IsEarly io s k (n + 1)) a b c x y z one two both e first then (early_split io s k n) (early_left io s k n) (early_right io s k n)
+    joins_both (IsEarly io s k n) (IsCallOf io s k (n / 8 + 1) (n % 8 + 1)) (IsEarly io s k (n + 1)) a b c x y z one two both e first then
+    (early_split io s k n) (early_left io s k n) (early_right io s k n)
 
 -- the relation has a pair just where it is marked
 module _ (io : Io) (s : ℕ) (marks : List Bool) (here : (n : ℕ) → n < 64 → slice_get marks n ≡ slice_get io.marks.items (s * 64 + n)) where
@@ -90,7 +97,8 @@ module _ (io : Io) (s : ℕ) (marks : List Bool) (here : (n : ℕ) → n < 64 �
       Joins (IsEarly io s k n) a b x y one → Joins (IsMarkedCall m k (n / 8 + 1) (n % 8 + 1)) b c y z two → Joins (IsEarly io s k (n + 1)) a c x z both
   joins_marked k n m a b c x y z one two both lt got e first then =
       joins_pair io s k n a b c x y z one two both e first
-      (joins_as (IsMarkedCall m k (n / 8 + 1) (n % 8 + 1)) (IsCallOf io s k (n / 8 + 1) (n % 8 + 1)) b c y z two (λ w q. (marked_has n m lt got q.0, q.1)) (λ w q. (has_marked n m lt got q.0, q.1)) then)
+      (joins_as (IsMarkedCall m k (n / 8 + 1) (n % 8 + 1)) (IsCallOf io s k (n / 8 + 1) (n % 8 + 1)) b c y z two
+      (λ w q. (marked_has n m lt got q.0, q.1)) (λ w q. (has_marked n m lt got q.0, q.1)) then)
 
   -- all pairs
   pub joins_marks : (k n : ℕ) (a b : List ℕ) (x y : List Bool) (again : Bool) → length marks ≤ n → Joins (IsEarly io s k n) a b x y again → Joins (IsCall io s k) a b x y again
@@ -104,7 +112,8 @@ module _ (io : Io) (s : ℕ) (marks : List Bool) (here : (n : ℕ) → n < 64 �
           (i, l, record { inherited = q.0.inherited; result = q.0.result; before = omega arith }, q)
 
 -- one child
-pub joins_child : (es : List (Option Occ)) (io : Io) (k : ℕ) (child : Child) (flows : List Flow) (a b c : List ℕ) (x y z : List Bool) (one two both : Bool) → flows ≡ term_flows es k false 1 (map term_of child.args) → both ≡ (two || one) →
+pub joins_child : (es : List (Option Occ)) (io : Io) (k : ℕ) (child : Child) (flows : List Flow) (a b c : List ℕ) (x y z : List Bool)
+    (one two both : Bool) → flows ≡ term_flows es k false 1 (map term_of child.args) → both ≡ (two || one) →
     Joins (IsFlow flows) a b x y one → Joins (IsCall io child.sort k) b c y z two → Joins (IsOfChild es io k child) a c x z both
 joins_child es io k child flows a b c x y z one two both same e first then =
     joins_both (IsFlow flows) (IsCall io child.sort k) (IsOfChild es io k child) a b c x y z one two both e first then
@@ -117,14 +126,16 @@ pub joins_no_child : (es : List (Option Occ)) (io : Io) (cs : List Child) (a : L
 joins_no_child es io cs a x = joins_none (IsOfChildren es io cs 0) a x (λ e (k, c, lt, got, q). omega arith)
 
 -- one more child
-pub joins_children : (es : List (Option Occ)) (io : Io) (cs : List Child) (n : ℕ) (child : Child) (a b c : List ℕ) (x y z : List Bool) (one two both : Bool) → slice_get cs n ≡ Some child → both ≡ (two || one) →
+pub joins_children : (es : List (Option Occ)) (io : Io) (cs : List Child) (n : ℕ) (child : Child) (a b c : List ℕ) (x y z : List Bool)
+    (one two both : Bool) → slice_get cs n ≡ Some child → both ≡ (two || one) →
     Joins (IsOfChildren es io cs n) a b x y one → Joins (IsOfChild es io (n + 1) child) b c y z two → Joins (IsOfChildren es io cs (n + 1)) a c x z both
 joins_children es io cs n child a b c x y z one two both here e first then =
     joins_both (IsOfChildren es io cs n) (IsOfChild es io (n + 1) child) (IsOfChildren es io cs (n + 1)) a b c x y z one two both e first then
     (child_split es io cs n child here) (child_left es io cs n) (child_right es io cs n child here)
 
 -- the children, and then the results
-pub joins_steps : (es : List (Option Occ)) (io : Io) (cs : List Child) (results : List Expr) (flows : List Flow) (a b c : List ℕ) (x y z : List Bool) (one two both : Bool) → flows ≡ term_flows es 0 true 1 (map term_of results) → both ≡ (two || one) →
+pub joins_steps : (es : List (Option Occ)) (io : Io) (cs : List Child) (results : List Expr) (flows : List Flow) (a b c : List ℕ) (x y z : List Bool)
+    (one two both : Bool) → flows ≡ term_flows es 0 true 1 (map term_of results) → both ≡ (two || one) →
     Joins (IsOfChildren es io cs (length cs)) a b x y one → Joins (IsFlow flows) b c y z two → Joins (IsStep es io cs results) a c x z both
 joins_steps es io cs results flows a b c x y z one two both same e first then =
     joins_both (IsOfChildren es io cs (length cs)) (IsFlow flows) (IsStep es io cs results) a b c x y z one two both e first then
@@ -143,7 +154,8 @@ pub bit_same : (n : ℕ) → n ≡ bit_of (n / 8) (n % 8 + 1)
 bit_same n = omega arith
 
 -- rows that are joined over the steps of a rule have each walk from an inherited value
-pub rows_there : (sorts : List Sort) (r : Rule) (io : Io) (P : Arc → Type 0) (rows : List ℕ) → IsGraphBy (rule_of sorts r) (Has io) P → ((a : Arc) → P a → IsJoined rows a) → HasEachWalk (rule_of sorts r) (Has io) rows
+pub rows_there : (sorts : List Sort) (r : Rule) (io : Io) (P : Arc → Type 0) (rows : List ℕ) → IsGraphBy (rule_of sorts r) (Has io) P →
+    ((a : Arc) → P a → IsJoined rows a) → HasEachWalk (rule_of sorts r) (Has io) rows
 rows_there sorts r io P rows g joined k i u w =
     let p = circle_place (rule_of sorts r) (Has io) P g w in
     (p, end_place (rule_of sorts r) (Has io) P g w, all_led P rows joined (bit_of k i) (inl (value_own k i p)) (walk_arcs (rule_of sorts r) (Has io) P g w))

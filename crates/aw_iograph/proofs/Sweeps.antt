@@ -67,7 +67,8 @@ sweep_start g io = record {
   kept = λ off k le r got. (let lt : k < length g.rules = slice_get_within g.rules k r got in absurd (omega arith));
 }
 
-pub sweep_step : (g : Grammar) (start io next : Io) (added one both : Bool) (n m : ℕ) → m + (n + 1) ≡ length g.rules → both ≡ (one || added) → Sweeping g start io added n → Grown io.marks.items next.marks.items one →
+pub sweep_step : (g : Grammar) (start io next : Io) (added one both : Bool) (n m : ℕ) → m + (n + 1) ≡ length g.rules → both ≡ (one || added) →
+    Sweeping g start io added n → Grown io.marks.items next.marks.items one →
     (one ≡ false → (r : Rule) → slice_get g.rules m ≡ Some r → IsKept (Has next) (rule_of g.sorts r)) →
     ((s i j : ℕ) → Has next s i j → Has io s i j ⊎ Walk (grammar_of g) (Has io) s i j) → Sweeping g start next both (n + 1)
 sweep_step g start io next added one both n m at e so grown kept only = record {
@@ -82,7 +83,8 @@ sweep_step g start io next added one both n m at e so grown kept only = record {
 }
 
 -- all rules were looked at
-pub swept : (g : Grammar) (marks : List Bool) (n : ℕ) → length g.rules ≤ n → ((k : ℕ) → length g.rules ≤ k + n → (r : Rule) → slice_get g.rules k ≡ Some r → IsKept (HasMark marks) (rule_of g.sorts r)) → IsClosedUnder (grammar_of g) (HasMark marks)
+pub swept : (g : Grammar) (marks : List Bool) (n : ℕ) → length g.rules ≤ n → ((k : ℕ) → length g.rules ≤ k + n → (r : Rule) →
+    slice_get g.rules k ≡ Some r → IsKept (HasMark marks) (rule_of g.sorts r)) → IsClosedUnder (grammar_of g) (HasMark marks)
 swept g marks n le all r m =
     let (d, here, same) = member_unmap (rule_of g.sorts) r g.rules m in
     let (k, lt, got) = member_place g.rules d here in

@@ -37,18 +37,21 @@ flow_there es o u (w ∷ ws) v (inl same) e =
     (subst (λ (x : Option Occ). Member (record { from = o; to = u }) (flow_to x u)) (sym e ∙ ap (get None es) same) (inl refl))
 flow_there es o u (w ∷ ws) v (inr m) e = member_right (record { from = o; to = u }) (flow_to (get None es w) u) (flows_to es u ws) (flow_there es o u ws v m e)
 
-term_there : (es : List (Option Occ)) (f : Flow) (k : ℕ) (b : Bool) (ts : List Term) (n i : ℕ) (t : Term) → slice_get ts i ≡ Some t → Member f (flows_to es (record { child = k; result = b; number = n + i }) (leaves t)) → Member f (term_flows es k b n ts)
+term_there : (es : List (Option Occ)) (f : Flow) (k : ℕ) (b : Bool) (ts : List Term) (n i : ℕ) (t : Term) → slice_get ts i ≡ Some t →
+    Member f (flows_to es (record { child = k; result = b; number = n + i }) (leaves t)) → Member f (term_flows es k b n ts)
 term_there es f k b [] n i t e m = absurd cc
 term_there es f k b (x ∷ xs) n zero t e m =
     let same : t ≡ x = cc in let at : n + 0 ≡ n = omega arith in
     member_left f (flows_to es (record { child = k; result = b; number = n }) (leaves x)) (term_flows es k b (suc n) xs)
-    (subst (λ (y : Term). Member f (flows_to es (record { child = k; result = b; number = n }) (leaves y))) same (subst (λ (z : ℕ). Member f (flows_to es (record { child = k; result = b; number = z }) (leaves t))) at m))
+    (subst (λ (y : Term). Member f (flows_to es (record { child = k; result = b; number = n }) (leaves y))) same
+    (subst (λ (z : ℕ). Member f (flows_to es (record { child = k; result = b; number = z }) (leaves t))) at m))
 term_there es f k b (x ∷ xs) n (suc i) t e m =
     let at : n + suc i ≡ suc n + i = omega arith in
     member_right f (flows_to es (record { child = k; result = b; number = n }) (leaves x)) (term_flows es k b (suc n) xs)
     (term_there es f k b xs (suc n) i t e (subst (λ (z : ℕ). Member f (flows_to es (record { child = k; result = b; number = z }) (leaves t))) at m))
 
-pub child_there : (es : List (Option Occ)) (f : Flow) (cs : List Child) (n k : ℕ) (c : Child) → slice_get cs k ≡ Some c → Member f (term_flows es (n + k) false 1 c.args) → Member f (child_flows es n cs)
+pub child_there : (es : List (Option Occ)) (f : Flow) (cs : List Child) (n k : ℕ) (c : Child) → slice_get cs k ≡ Some c →
+    Member f (term_flows es (n + k) false 1 c.args) → Member f (child_flows es n cs)
 child_there es f [] n k c e m = absurd cc
 child_there es f (x ∷ xs) n zero c e m =
     let same : c ≡ x = cc in let at : n + 0 ≡ n = omega arith in
@@ -59,15 +62,18 @@ child_there es f (x ∷ xs) n (suc k) c e m =
     member_right f (term_flows es n false 1 x.args) (child_flows es (suc n) xs)
     (child_there es f xs (suc n) k c e (subst (λ (z : ℕ). Member f (term_flows es z false 1 c.args)) at m))
 
-argument_got : (r : Rule) (k i : ℕ) (t : Term) → argument_at r k i ≡ Some t → (j : ℕ) × (m : ℕ) × (c : Child) × (k ≡ suc j) × (i ≡ suc m) × (slice_get r.children j ≡ Some c) × (slice_get c.args m ≡ Some t)
+argument_got : (r : Rule) (k i : ℕ) (t : Term) → argument_at r k i ≡ Some t → (j : ℕ) × (m : ℕ) × (c : Child) × (k ≡ suc j) × (i ≡ suc m)
+    × (slice_get r.children j ≡ Some c) × (slice_get c.args m ≡ Some t)
 argument_got r zero i t e = absurd cc
 argument_got r (suc j) i t e = at (slice_get r.children j) refl e
   where
-    numbered : (c : Child) (i : ℕ) → slice_get r.children j ≡ Some c → item c.args i ≡ Some t → (j' : ℕ) × (m : ℕ) × (d : Child) × (suc j ≡ suc j') × (i ≡ suc m) × (slice_get r.children j' ≡ Some d) × (slice_get d.args m ≡ Some t)
+    numbered : (c : Child) (i : ℕ) → slice_get r.children j ≡ Some c → item c.args i ≡ Some t → (j' : ℕ) × (m : ℕ) × (d : Child) × (suc j ≡ suc j')
+        × (i ≡ suc m) × (slice_get r.children j' ≡ Some d) × (slice_get d.args m ≡ Some t)
     numbered c zero g h = absurd cc
     numbered c (suc m) g h = (j, m, c, refl, refl, g, h)
 
-    at : (found : Option Child) → slice_get r.children j ≡ found → option_and_then (λ (c : Child). item c.args i) found ≡ Some t → (j' : ℕ) × (m : ℕ) × (d : Child) × (suc j ≡ suc j') × (i ≡ suc m) × (slice_get r.children j' ≡ Some d) × (slice_get d.args m ≡ Some t)
+    at : (found : Option Child) → slice_get r.children j ≡ found → option_and_then (λ (c : Child). item c.args i) found ≡ Some t → (j' : ℕ) × (m : ℕ)
+        × (d : Child) × (suc j ≡ suc j') × (i ≡ suc m) × (slice_get r.children j' ≡ Some d) × (slice_get d.args m ≡ Some t)
     at None g h = absurd cc
     at (Some c) g h = numbered c i g h
 
@@ -87,7 +93,8 @@ stands_at r t k true n e =
     subst (λ (x : ℕ). Stands r t (record { child = x; result = true; number = n })) (sym z) (subst (λ (x : ℕ). Stands r t (record { child = 0; result = true; number = x })) (sym s) (outcome m g))
 stands_at r t k false n e =
     let (j, m, c, z, s, g, h) = argument_got r k n t e in
-    subst (λ (x : ℕ). Stands r t (record { child = x; result = false; number = n })) (sym z) (subst (λ (x : ℕ). Stands r t (record { child = suc j; result = false; number = x })) (sym s) (argument j m c g h))
+    subst (λ (x : ℕ). Stands r t (record { child = x; result = false; number = n })) (sym z)
+    (subst (λ (x : ℕ). Stands r t (record { child = suc j; result = false; number = x })) (sym s) (argument j m c g h))
 
 pub stands : (r : Rule) (t : Term) (u : Occ) → term_at r u ≡ Some t → Stands r t u
 stands r t u e = stands_at r t u.child u.result u.number e
@@ -95,12 +102,15 @@ stands r t u e = stands_at r t u.child u.result u.number e
 flows_stand : (r : Rule) (o u : Occ) (v : ℕ) (t : Term) → get None (entries r) v ≡ Some o → Stands r t u → In v t → Member (record { from = o; to = u }) (text_flows r)
 flows_stand r o u v t e (argument k i c g h) x =
     member_left _ (child_flows (entries r) 1 r.children) (term_flows (entries r) 0 true 1 r.results)
-    (child_there (entries r) _ r.children 1 k c g (let k' : suc k ≡ 1 + k = omega arith in subst (λ (z : ℕ). Member (record { from = o; to = inherited (suc k) (suc i) }) (term_flows (entries r) z false 1 c.args)) k'
-    (term_there (entries r) _ (suc k) false c.args 1 i t h (let i' : suc i ≡ 1 + i = omega arith in subst (λ (z : ℕ). Member (record { from = o; to = inherited (suc k) (suc i) }) (flows_to (entries r) (inherited (suc k) z) (leaves t))) i'
+    (child_there (entries r) _ r.children 1 k c g (let k' : suc k ≡ 1 + k = omega arith in
+    subst (λ (z : ℕ). Member (record { from = o; to = inherited (suc k) (suc i) }) (term_flows (entries r) z false 1 c.args)) k'
+    (term_there (entries r) _ (suc k) false c.args 1 i t h (let i' : suc i ≡ 1 + i = omega arith in
+    subst (λ (z : ℕ). Member (record { from = o; to = inherited (suc k) (suc i) }) (flows_to (entries r) (inherited (suc k) z) (leaves t))) i'
     (flow_there (entries r) o (inherited (suc k) (suc i)) (leaves t) v (leaf_there v t x) e)))))
 flows_stand r o u v t e (outcome j h) x =
     member_right _ (child_flows (entries r) 1 r.children) (term_flows (entries r) 0 true 1 r.results)
-    (term_there (entries r) _ 0 true r.results 1 j t h (let j' : suc j ≡ 1 + j = omega arith in subst (λ (z : ℕ). Member (record { from = o; to = given 0 (suc j) }) (flows_to (entries r) (given 0 z) (leaves t))) j'
+    (term_there (entries r) _ 0 true r.results 1 j t h (let j' : suc j ≡ 1 + j = omega arith in
+    subst (λ (z : ℕ). Member (record { from = o; to = given 0 (suc j) }) (flows_to (entries r) (given 0 z) (leaves t))) j'
     (flow_there (entries r) o (given 0 (suc j)) (leaves t) v (leaf_there v t x) e)))
 
 -- each text edge is a flow
@@ -129,7 +139,8 @@ term_only es k b (x ∷ xs) n f m = elim (member_split f (flows_to es (record { 
       let z : suc n + i ≡ n + suc i = omega arith in (suc i, t, v, g, w, e, p ∙ ap (λ (y : ℕ). record { child = k; result = b; number = y }) z))
 ]
 
-pub child_only : (es : List (Option Occ)) (cs : List Child) (n : ℕ) (f : Flow) → Member f (child_flows es n cs) → (k : ℕ) × (c : Child) × (slice_get cs k ≡ Some c) × Member f (term_flows es (n + k) false 1 c.args)
+pub child_only : (es : List (Option Occ)) (cs : List Child) (n : ℕ) (f : Flow) → Member f (child_flows es n cs) → (k : ℕ) × (c : Child)
+    × (slice_get cs k ≡ Some c) × Member f (term_flows es (n + k) false 1 c.args)
 child_only es [] n f m = never m
 child_only es (x ∷ xs) n f m = elim (member_split f (term_flows es n false 1 x.args) (child_flows es (suc n) xs) m) [
   | inl a ↦ (let z : n ≡ n + 0 = omega arith in (0, x, refl, subst (λ (y : ℕ). Member f (term_flows es y false 1 x.args)) z a))

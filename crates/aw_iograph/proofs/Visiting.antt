@@ -24,7 +24,8 @@ use Rattle.aw_iograph.proofs.RuleGraphs.{child_got}
 use Rattle.aw_iograph.proofs.Sweeps.{has_grown}
 
 -- relations grew at one sort alone, and no child of a rule has that sort
-module _ (sorts : List Sort) (r : Rule) (old new : Io) (s : ℕ) (apart : (n : ℕ) (c : Child) → slice_get r.children n ≡ Some c → c.sort ≢ s) (only : (t i j : ℕ) → Has new t i j → Has old t i j ⊎ (t ≡ s)) where
+module _ (sorts : List Sort) (r : Rule) (old new : Io) (s : ℕ) (apart : (n : ℕ) (c : Child) → slice_get r.children n ≡ Some c → c.sort ≢ s)
+    (only : (t i j : ℕ) → Has new t i j → Has old t i j ⊎ (t ≡ s)) where
   back_edge : {o u : Occ} → Edge (rule_of sorts r) (Has new) o u → Edge (rule_of sorts r) (Has old) o u
   back_edge (text v t a b x) = text v t a b x
   back_edge (call k i l c a x) = elim (only c.sort i l x) [
@@ -39,7 +40,8 @@ module _ (sorts : List Sort) (r : Rule) (old new : Io) (s : ℕ) (apart : (n : �
   back_plus (more e w) = more (back_edge e) (back_plus w)
 
 -- rule m, of value r, was visited
-module _ (g : Grammar) (old next : Io) (before after : Visits) (m : ℕ) (r : Rule) (so : AreVisited g old before) (here : slice_get g.rules m ≡ Some r) (declared : r.sort < length g.sorts) (rules : after.rules.items ≡ slice_set before.rules.items m before.count) (up : before.count ≤ after.count) where
+module _ (g : Grammar) (old next : Io) (before after : Visits) (m : ℕ) (r : Rule) (so : AreVisited g old before) (here : slice_get g.rules m ≡ Some r)
+    (declared : r.sort < length g.sorts) (rules : after.rules.items ≡ slice_set before.rules.items m before.count) (up : before.count ≤ after.count) where
   in_rules : m < length before.rules.items
   in_rules = let lt : m < length g.rules = slice_get_within g.rules m r here in let e = so.rules in omega arith
 
@@ -95,7 +97,8 @@ module _ (g : Grammar) (old next : Io) (before after : Visits) (m : ℕ) (r : Ru
       }
 
   -- no relation grew
-  same_next : next.marks.items ≡ old.marks.items → ((i j : ℕ) → Plus (Edge (rule_of g.sorts r) (Has old)) (inherited 0 i) (given 0 j) → Has next r.sort i j) → after.sorts.items ≡ before.sorts.items → AreVisited g next after
+  same_next : next.marks.items ≡ old.marks.items → ((i j : ℕ) → Plus (Edge (rule_of g.sorts r) (Has old)) (inherited 0 i) (given 0 j) →
+      Has next r.sort i j) → after.sorts.items ≡ before.sorts.items → AreVisited g next after
   same_next marks kept sorts = record {
     rules = ap length rules ∙ length-set before.rules.items m before.count ∙ so.rules;
     sorts = ap length sorts ∙ so.sorts;
@@ -109,10 +112,12 @@ module _ (g : Grammar) (old next : Io) (before after : Visits) (m : ℕ) (r : Ru
       calm_before : (k : ℕ) (q : Rule) → k ≢ m → IsCalm after k q.children → IsCalm before k q.children
       calm_before k q off calm = record {
         visited = subst (λ n. 0 < n) (other k off) calm.visited;
-        still = λ n c got. subst (λ (xs : List ℕ). slice_index xs c.sort < slice_index before.rules.items k) sorts (subst (λ x. slice_index after.sorts.items c.sort < x) (other k off) (calm.still n c got));
+        still = λ n c got. subst (λ (xs : List ℕ). slice_index xs c.sort < slice_index before.rules.items k) sorts
+            (subst (λ x. slice_index after.sorts.items c.sort < x) (other k off) (calm.still n c got));
       }
 
   pub visited_next : (grew : Bool) → Grown old.marks.items next.marks.items grew → ((i j : ℕ) → Plus (Edge (rule_of g.sorts r) (Has old)) (inherited 0 i) (given 0 j) → Has next r.sort i j) →
-      ((t i j : ℕ) → Has next t i j → Has old t i j ⊎ (t ≡ r.sort)) → (grew ≡ true → after.sorts.items ≡ slice_set before.sorts.items r.sort before.count) → (grew ≡ false → after.sorts.items ≡ before.sorts.items) → AreVisited g next after
+      ((t i j : ℕ) → Has next t i j → Has old t i j ⊎ (t ≡ r.sort)) → (grew ≡ true → after.sorts.items ≡ slice_set before.sorts.items r.sort
+      before.count) → (grew ≡ false → after.sorts.items ≡ before.sorts.items) → AreVisited g next after
   visited_next true grown kept only sorts same = grown_next grown kept only (sorts refl)
   visited_next false grown kept only sorts same = same_next (grown.same refl) kept (same refl)

@@ -81,7 +81,8 @@ head_parts : (file : List ℕ) (role : ℕ) (text : List ℕ) → IsHead file ro
 head_parts file role text h is =
     let n = length text in
     let next = drop (11 + n) file in
-    let back : drop 11 file ≡ text ++ next = sym (take-append-drop n (drop 11 file)) ∙ ap (λ (l : List ℕ). l ++ drop n (drop 11 file)) (sym is) ∙ ap (λ (l : List ℕ). text ++ l) (drop-drop n 11 file) in
+    let back : drop 11 file ≡ text ++ next = sym (take-append-drop n (drop 11 file)) ∙ ap (λ (l : List ℕ). l ++ drop n (drop 11 file)) (sym is)
+    ∙ ap (λ (l : List ℕ). text ++ l) (drop-drop n 11 file) in
     let counted : drop 3 file ≡ u64_bytes n ++ (text ++ next) =
     sym (take-append-drop 8 (drop 3 file)) ∙ ap (λ (l : List ℕ). l ++ drop 8 (drop 3 file)) (sym h.front.bytes) ∙ ap (λ (l : List ℕ). u64_bytes n ++ l) (drop-drop 8 3 file ∙ back) in
     let roles : drop 1 file ≡ u16_bytes role ++ (u64_bytes n ++ (text ++ next)) =

@@ -33,13 +33,15 @@ events_behind (x ∷ xs) ys (suc k) is = events_behind xs ys k (omega arith)
 pub closed : (gate : ℕ) (rest : List ℕ) → gate ≢ 1 → events_from 0 (gate ∷ rest) ≡ []
 closed gate rest shut = grind (arith, nat_tests)
 
-pub whole_of_all : (n : ℕ) (payload : List ℕ) (event : Event) (tail : List ℕ) → length payload ≡ n → event_in payload ≡ Some event → 0 < length tail → whole_of n (payload ++ tail) ≡ Some (event, 8 + n)
+pub whole_of_all : (n : ℕ) (payload : List ℕ) (event : Event) (tail : List ℕ) → length payload ≡ n → event_in payload ≡ Some event → 0 < length tail →
+    whole_of n (payload ++ tail) ≡ Some (event, 8 + n)
 whole_of_all n payload event tail size parsed more =
     let fits : nat_lt n (length (payload ++ tail)) ≡ true = lt-ltb _ _ (omega (arith, length-append payload tail)) in
     let cut : take n (payload ++ tail) ≡ payload = take_at payload tail n size in
     rw (fits, cut, parsed) refl
 
-pub whole_spelled : (event : Event) (tail : List ℕ) → IsEvent event → length (payload_of event) < 2 ^ 64 → 0 < length tail → whole (record_of event ++ tail) ≡ Some (event, 8 + length (payload_of event))
+pub whole_spelled : (event : Event) (tail : List ℕ) → IsEvent event → length (payload_of event) < 2 ^ 64 → 0 < length tail →
+    whole (record_of event ++ tail) ≡ Some (event, 8 + length (payload_of event))
 whole_spelled event tail good fits more =
     let n = length (payload_of event) in
     let parts : record_of event ++ tail ≡ u64_bytes n ++ (payload_of event ++ tail) = append_assoc (u64_bytes n) (payload_of event) tail in
@@ -79,7 +81,8 @@ all_push (first ∷ events) event all good = (all.0, all_push events event all.1
 pub length-records : (event : Event) (events : List Event) → length (records (event ∷ events)) ≡ 9 + length (payload_of event) + length (records events)
 length-records event events = omega (arith, length-append (record_of event) (records events), length-spelled event)
 
-pub events_records : (events : List Event) (tail : List ℕ) → AllEvents events → length (records events) < 2 ^ 64 → 0 < length tail → events_from 0 (records events ++ tail) ≡ events ++ events_from 0 tail
+pub events_records : (events : List Event) (tail : List ℕ) → AllEvents events → length (records events) < 2 ^ 64 → 0 < length tail →
+    events_from 0 (records events ++ tail) ≡ events ++ events_from 0 tail
 events_records [] tail all fits more = refl
 events_records (event ∷ events) tail all fits more =
     let long = length-records event events in
@@ -92,7 +95,13 @@ pub headless : (file : List ℕ) → has_head file ≡ false → events_of file 
 headless file none = rw none refl
 
 pub length-head : (role : ℕ) (text : List ℕ) → length (head role text) ≡ 10 + length text
-length-head role text = omega (arith, length-append (u16_bytes role) (u64_bytes (length text) ++ text), length-append (u64_bytes (length text)) text, length-u16_bytes role, length-u64_bytes (length text))
+length-head role text = omega (
+  arith,
+  length-append (u16_bytes role) (u64_bytes (length text) ++ text),
+  length-append (u64_bytes (length text)) text,
+  length-u16_bytes role,
+  length-u64_bytes (length text),
+)
 
 pub stands : (rest : List ℕ) → 0 < length rest → has_head (1 ∷ rest) ≡ true
 stands [] more = absurd (omega arith)
@@ -101,14 +110,16 @@ stands (byte ∷ rest) more = refl
 pub headed : (role : ℕ) (text rest : List ℕ) → length text < 2 ^ 64 → events_of (1 ∷ (head role text ++ rest)) ≡ events_from 0 rest
 headed role text rest fits =
     let n = u64_in (drop 3 (1 ∷ (head role text ++ rest))) in
-    let parts : head role text ++ rest ≡ u16_bytes role ++ (u64_bytes (length text) ++ (text ++ rest)) = append_assoc (u16_bytes role) (u64_bytes (length text) ++ text) rest ∙ ap (λ (l : List ℕ). u16_bytes role ++ l) (append_assoc (u64_bytes (length text)) text rest) in
+    let parts : head role text ++ rest ≡ u16_bytes role ++ (u64_bytes (length text) ++ (text ++ rest)) = append_assoc (u16_bytes role)
+    (u64_bytes (length text) ++ text) rest ∙ ap (λ (l : List ℕ). u16_bytes role ++ l) (append_assoc (u64_bytes (length text)) text rest) in
     let behind : drop 2 (head role text ++ rest) ≡ u64_bytes (length text) ++ (text ++ rest) = ap (λ (l : List ℕ). drop 2 l) parts ∙ drop_at (u16_bytes role) _ 2 (length-u16_bytes role) in
     let size : n ≡ length text = ap u64_in behind ∙ u64_in-u64_bytes (length text) (text ++ rest) fits in
     let stands : has_head (1 ∷ (head role text ++ rest)) ≡ true = stands (head role text ++ rest) (omega (arith, length-append (head role text) rest, length-head role text)) in
     rw stands (events_behind (1 ∷ head role text) rest (11 + n) (omega (arith, length-head role text, size)))
 
 -- a head, open records and a last part
-pub events_front : (role : ℕ) (text : List ℕ) (events : List Event) (tail : List ℕ) → AllEvents events → length text < 2 ^ 64 → length (records events) < 2 ^ 64 → 0 < length tail → events_of (front role text events ++ tail) ≡ events ++ events_from 0 tail
+pub events_front : (role : ℕ) (text : List ℕ) (events : List Event) (tail : List ℕ) → AllEvents events → length text < 2 ^ 64 →
+    length (records events) < 2 ^ 64 → 0 < length tail → events_of (front role text events ++ tail) ≡ events ++ events_from 0 tail
 events_front role text events tail all fits_text fits more =
     ap (λ (l : List ℕ). events_of (1 ∷ l)) (append_assoc (head role text) (records events) tail)
     ∙ headed role text (records events ++ tail) fits_text

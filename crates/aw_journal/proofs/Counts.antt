@@ -55,10 +55,12 @@ pub message_length : (m : Message) → length (spelled_message m) ≡ 3 + length
 message_length m = omega arith
 
 -- one more of a list is counted
-pub counted_more : {A : Type 0} (spelled : A → List ℕ) (k : ℕ) (xs : List A) (i : ℕ) (x : A) (count one new : ℕ) → i < length xs → x ≡ get_or xs i x → count ≡ capped (k + length (flat_map spelled (take i xs))) → one ≡ capped (length (spelled x))
+pub counted_more : {A : Type 0} (spelled : A → List ℕ) (k : ℕ) (xs : List A) (i : ℕ) (x : A) (count one new : ℕ) → i < length xs → x ≡ get_or xs i x →
+    count ≡ capped (k + length (flat_map spelled (take i xs))) → one ≡ capped (length (spelled x))
     → new ≡ capped (count + one) → new ≡ capped (k + length (flat_map spelled (take (i + 1) xs)))
 counted_more spelled k xs i x count one new lt is so_far here added =
-    let next : flat_map spelled (take i xs) ++ spelled x ≡ flat_map spelled (take (i + 1) xs) = one_more spelled xs i x [] (flat_map spelled (take i xs)) (flat_map spelled (take i xs) ++ spelled x) lt is refl refl in
+    let next : flat_map spelled (take i xs) ++ spelled x ≡ flat_map spelled (take (i + 1) xs) = one_more spelled xs i x []
+    (flat_map spelled (take i xs)) (flat_map spelled (take i xs) ++ spelled x) lt is refl refl in
     sums count one new k (length (flat_map spelled (take i xs))) (length (spelled x)) (length (flat_map spelled (take (i + 1) xs)))
     (sym (length-append (flat_map spelled (take i xs)) (spelled x)) ∙ ap length next) so_far here added
   where
@@ -66,7 +68,8 @@ counted_more spelled k xs i x count one new lt is so_far here added =
     sums count one new k a b c sum so_far here added = omega arith
 
 -- all of a list are counted
-pub counted_all : {A B : Type 0} (spelled : B → List ℕ) (view : A → B) (xs : List A) (i count : ℕ) → length xs ≤ i → count ≡ capped (0 + length (flat_map (λ x. spelled (view x)) (take i xs))) → count ≡ capped (length (flat_map spelled (map view xs)))
+pub counted_all : {A B : Type 0} (spelled : B → List ℕ) (view : A → B) (xs : List A) (i count : ℕ) → length xs ≤ i →
+    count ≡ capped (0 + length (flat_map (λ x. spelled (view x)) (take i xs))) → count ≡ capped (length (flat_map spelled (map view xs)))
 counted_all spelled view xs i count le so_far =
     none count (length (flat_map (λ x. spelled (view x)) (take i xs))) so_far
     ∙ ap (λ ys. capped (length (flat_map (λ x. spelled (view x)) ys))) (take_all i xs le) ∙ ap (λ (l : List ℕ). capped (length l)) (sym (flat_map-map spelled view xs))
@@ -79,7 +82,8 @@ pub con_length : (c : ℕ) (parts : List grounds.Ground) → length (spelled_gro
 con_length c parts =
     ap (λ t. length (spelled_ground t)) (ground_con c parts) ∙ omega (arith, ap length (parts_join (map ground_of parts)))
 
-pub con_counted : (g : grounds.Ground) (c : ℕ) (parts qs : List grounds.Ground) (n new : ℕ) → g ≡ grounds.Con c parts → qs ≡ parts → n ≡ capped (length (flat_map spelled_ground (map ground_of qs))) → new ≡ capped (n + 4) → new ≡ capped (length (spelled_ground (ground_of g)))
+pub con_counted : (g : grounds.Ground) (c : ℕ) (parts qs : List grounds.Ground) (n new : ℕ) → g ≡ grounds.Con c parts → qs ≡ parts →
+    n ≡ capped (length (flat_map spelled_ground (map ground_of qs))) → new ≡ capped (n + 4) → new ≡ capped (length (spelled_ground (ground_of g)))
 con_counted g c parts qs n new is same here added =
     sums n new (length (flat_map spelled_ground (map ground_of parts))) (length (spelled_ground (ground_of g)))
     (here ∙ ap (λ ps. capped (length (flat_map spelled_ground (map ground_of ps)))) same) added

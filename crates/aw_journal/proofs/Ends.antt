@@ -16,10 +16,14 @@ pub cut_behind : (before rest c : List ℕ) (gate place : ℕ) → place ≡ len
 cut_behind before rest c gate place is cut =
     let long = long_place before rest gate in
     let k = length c - (length before + 1) in
-    let size : length c ≡ length (before ++ gate ∷ []) + k = omega (arith, cut.no_shorter, long, length-append before (gate ∷ [])) in
-    (k, sym cut.front ∙ ap (λ (l : List ℕ). take (length c) l) (sym (append_assoc before (gate ∷ []) rest)) ∙ take_past (before ++ gate ∷ []) rest (length c) k size ∙ append_assoc before (gate ∷ []) (take k rest))
+    let size : length c ≡ length (before ++ gate ∷ []) + k = omega (arith, cut.no_shorter, long, length-append before (gate ∷ [])) in (
+      k,
+      sym cut.front ∙ ap (λ (l : List ℕ). take (length c) l) (sym (append_assoc before (gate ∷ []) rest)) ∙ take_past (before ++ gate ∷ []) rest
+          (length c) k size ∙ append_assoc before (gate ∷ []) (take k rest),
+    )
 
-pub ended : (before rest : List ℕ) (gate place : ℕ) (is_open : Bool) (outcomes : List ℕ → Type 0) → place ≡ length before → ((c : List ℕ) → outcomes c → IsShut before rest gate is_open c) → (c : List ℕ) → AfterCut (place + 1) outcomes c → IsEnded before rest gate is_open c
+pub ended : (before rest : List ℕ) (gate place : ℕ) (is_open : Bool) (outcomes : List ℕ → Type 0) → place ≡ length before →
+    ((c : List ℕ) → outcomes c → IsShut before rest gate is_open c) → (c : List ℕ) → AfterCut (place + 1) outcomes c → IsEnded before rest gate is_open c
 ended before rest gate place is_open outcomes is was c left =
     let from = was left.0 left.1 in
     let cut : Cut (place + 1) (before ++ from.0 ∷ rest) c = subst (λ (d : List ℕ). Cut (place + 1) d c) from.1 left.2 in

@@ -51,7 +51,8 @@ found_at bytes gate n within is_open payload =
     let event_is : take n (drop 8 rest) ≡ take (gate + 9 + n - (gate + 9)) (drop (gate + 9) bytes) =
     (let same : n ≡ gate + 9 + n - (gate + 9) = omega arith in ap (λ (k : ℕ). take k (drop 8 rest)) same)
     ∙ ap (λ (l : List ℕ). take (gate + 9 + n - (gate + 9)) l) (drop-drop 8 (gate + 1) bytes ∙ (let same : gate + 1 + 8 ≡ gate + 9 = omega arith in ap (λ (k : ℕ). drop k bytes) same)) in
-    let next_is : drop (8 + n) rest ≡ drop (gate + 9 + n) bytes = drop-drop (8 + n) (gate + 1) bytes ∙ (let same : gate + 1 + (8 + n) ≡ gate + 9 + n = omega arith in ap (λ (k : ℕ). drop k bytes) same) in
+    let next_is : drop (8 + n) rest ≡ drop (gate + 9 + n) bytes = drop-drop (8 + n) (gate + 1) bytes ∙ (let same : gate + 1 + (8 + n) ≡ gate + 9 + n =
+    omega arith in ap (λ (k : ℕ). drop k bytes) same) in
     record {
       within = omega (arith, payload.within, size);
       later = omega arith;
@@ -66,7 +67,8 @@ not_open bytes gate within shut = ap (events_from 0) (drop_more bytes gate 0 wit
 pub not_whole : (bytes : List ℕ) (gate : ℕ) → gate < length bytes → whole (drop (gate + 1) bytes) ≡ None → events_from 0 (drop gate bytes) ≡ []
 not_whole bytes gate within none = ap (events_from 0) (drop_more bytes gate 0 within) ∙ no_more (get_or bytes gate 0) (drop (gate + 1) bytes) none
 
-pub found_push : (from events_at next : List ℕ) (events : List Event) (event : Event) → from ≡ records events ++ events_at → events_at ≡ 1 ∷ (record_of event ++ next) → from ≡ records (events ++ event ∷ []) ++ next
+pub found_push : (from events_at next : List ℕ) (events : List Event) (event : Event) → from ≡ records events ++ events_at →
+    events_at ≡ 1 ∷ (record_of event ++ next) → from ≡ records (events ++ event ∷ []) ++ next
 found_push from events_at next events event before here =
     before ∙ ap (λ (l : List ℕ). records events ++ l) here ∙ sym (append_assoc (records events) (1 ∷ record_of event) next)
     ∙ ap (λ (l : List ℕ). l ++ next) (sym (records_push events event))

@@ -29,23 +29,28 @@ pub no_events : (role : ℕ) (text file : List ℕ) → has_head file ≡ false 
 no_events role text file none = record { events_are = headless file none; no_other_head = λ foreign. false≢true (sym none ∙ foreign.0) }
 
 -- while a head is written behind a closed gate, which is then opened
-pub around_head : (role : ℕ) (text rest c : List ℕ) (shut : ℕ) → length (front role text []) < 2 ^ 64 → shut ≢ 1 → IsAround [] shut (behind_gate (head role text ++ 0 ∷ []) rest) c → HasEvents role text [] c
+pub around_head : (role : ℕ) (text rest c : List ℕ) (shut : ℕ) → length (front role text []) < 2 ^ 64 → shut ≢ 1 →
+    IsAround [] shut (behind_gate (head role text ++ 0 ∷ []) rest) c → HasEvents role text [] c
 around_head role text rest c shut fits closed_gate (inl p) = no_events role text c (ap has_head p.1 ∙ headless_shut shut p.0 closed_gate)
 around_head role text rest c shut fits closed_gate (inr p) = elim (cases_eq p.0 1) [
   | inl is_open ↦ rests role text [] tt fits c (drop (length (head role text ++ 0 ∷ [])) rest) 0 (omega arith)
-      (p.1 ∙ ap (λ (gate : ℕ). gate ∷ behind_gate (head role text ++ 0 ∷ []) rest) is_open ∙ ap (λ (l : List ℕ). 1 ∷ l) (append_assoc (head role text) (0 ∷ []) (drop (length (head role text ++ 0 ∷ [])) rest))
+      (p.1 ∙ ap (λ (gate : ℕ). gate ∷ behind_gate (head role text ++ 0 ∷ []) rest) is_open ∙ ap (λ (l : List ℕ). 1 ∷ l)
+      (append_assoc (head role text) (0 ∷ []) (drop (length (head role text ++ 0 ∷ [])) rest))
       ∙ sym (front_none role text (0 ∷ drop (length (head role text ++ 0 ∷ [])) rest)))
   | inr still ↦ no_events role text c (ap has_head p.1 ∙ headless_shut p.0 _ still)
 ]
 
 module _ {D : Type 0} (tells : D → Bool) (seen : D → List ℕ) (may_leave : D → List ℕ → Type 0) where
-  pub settled_head : (disk : D) (role limit : ℕ) (text rest : List ℕ) → StandsAt tells seen may_leave disk 0 [] (behind_gate (head role text ++ 0 ∷ []) rest) 1 → IsSettled seen may_leave disk (record { role = role; text = text; events = []; limit = limit; usable = true })
+  pub settled_head : (disk : D) (role limit : ℕ) (text rest : List ℕ) → StandsAt tells seen may_leave disk 0 []
+      (behind_gate (head role text ++ 0 ∷ []) rest) 1 → IsSettled seen may_leave disk
+      (record { role = role; text = text; events = []; limit = limit; usable = true })
   settled_head disk role limit text rest stands = record {
     file = record {
       gate = 0;
       rest = drop (length (head role text ++ 0 ∷ [])) rest;
       shut = omega arith;
-      is = stands.is ∙ ap (λ (l : List ℕ). 1 ∷ l) (append_assoc (head role text) (0 ∷ []) (drop (length (head role text ++ 0 ∷ [])) rest)) ∙ sym (front_none role text (0 ∷ drop (length (head role text ++ 0 ∷ [])) rest));
+      is = stands.is ∙ ap (λ (l : List ℕ). 1 ∷ l) (append_assoc (head role text) (0 ∷ []) (drop (length (head role text ++ 0 ∷ [])) rest))
+          ∙ sym (front_none role text (0 ∷ drop (length (head role text ++ 0 ∷ [])) rest));
     };
     durable = stands.durable;
   }
@@ -87,10 +92,13 @@ clash : (gate : ℕ) → gate ≢ 1 → IsTrue (gate == 1) → ⊥
 clash gate shut is = grind (arith, nat_tests)
 
 -- while what lies past the last gate is cut off
-pub ended_events : (role : ℕ) (text rest c : List ℕ) (events : List Event) (gate : ℕ) → AllEvents events → length (front role text events) < 2 ^ 64 → events_from 0 (gate ∷ rest) ≡ [] → IsEnded (front role text events) rest gate (gate == 1) c → HasEvents role text events c
+pub ended_events : (role : ℕ) (text rest c : List ℕ) (events : List Event) (gate : ℕ) → AllEvents events → length (front role text events) < 2 ^ 64 →
+    events_from 0 (gate ∷ rest) ≡ [] → IsEnded (front role text events) rest gate (gate == 1) c → HasEvents role text events c
 ended_events role text rest c events gate all fits none left =
     let long = length-front role text events in
-    behind_own_head role text c (take left.1 rest) events events left.0 left.2 (ap events_of left.2 ∙ events_front role text events (left.0 ∷ take left.1 rest) all (omega (arith, long)) (omega (arith, long)) (omega arith) ∙ ap (λ (es : List Event). events ++ es) behind ∙ append-nil events)
+    behind_own_head role text c (take left.1 rest) events events left.0 left.2 (ap events_of left.2 ∙ events_front role text events
+    (left.0 ∷ take left.1 rest) all (omega (arith, long)) (omega (arith, long)) (omega arith) ∙ ap (λ (es : List Event). events ++ es)
+    behind ∙ append-nil events)
   where
     behind : events_from 0 (left.0 ∷ take left.1 rest) ≡ []
     behind = elim (cases_eq gate 1) [
@@ -102,7 +110,8 @@ ended_events role text rest c events gate all fits none left =
     ]
 
 -- a file with this head, whose records were found
-pub resumed : (role : ℕ) (text bytes : List ℕ) (from gate : ℕ) (events : List Event) → HasThisHead role text bytes → from ≡ 11 + length text → gate < 2 ^ 64 → AllEvents events → FoundAll bytes from gate events → Resumed role text bytes gate events
+pub resumed : (role : ℕ) (text bytes : List ℕ) (from gate : ℕ) (events : List Event) → HasThisHead role text bytes → from ≡ 11 + length text →
+    gate < 2 ^ 64 → AllEvents events → FoundAll bytes from gate events → Resumed role text bytes gate events
 resumed role text bytes from gate events has is small all found =
     let h = 1 ∷ head role text in
     let long_head : length h ≡ 11 + length text = omega (arith, length-head role text) in
@@ -118,7 +127,8 @@ resumed role text bytes from gate events has is small all found =
       place = place;
       is = parts ∙ ap (λ (l : List ℕ). front role text events ++ l) here;
       none = ap (events_from 0) (sym here) ∙ found.no_more;
-      events_are = ap events_of parts ∙ events_front role text events (drop gate bytes) all (omega (arith, long, place, small)) (omega (arith, long, place, small)) (omega (arith, length-drop gate bytes, found.within))
+      events_are = ap events_of parts ∙ events_front role text events (drop gate bytes) all (omega (arith, long, place, small))
+          (omega (arith, long, place, small)) (omega (arith, length-drop gate bytes, found.within))
           ∙ ap (λ (es : List Event). events ++ es) found.no_more ∙ append-nil events;
       fits = omega (arith, place, small);
       all = all;
@@ -127,5 +137,12 @@ resumed role text bytes from gate events has is small all found =
 pub shut_after : (gate : ℕ) → (if gate == 1 then 0 else gate) ≢ 1
 shut_after gate is = grind (arith, nat_tests)
 
-pub as_made : (j : Kept) (role limit : ℕ) (text given : List ℕ) (events had : List NodeEvent) → j ≡ record { role = role; text = given; events = had; limit = limit; usable = true } → given ≡ text → had ≡ events → j ≡ record { role = role; text = text; events = events; limit = limit; usable = true }
+pub as_made : (j : Kept) (role limit : ℕ) (text given : List ℕ) (events had : List NodeEvent) → j ≡ record {
+  role = role;
+  text = given;
+  events =
+      had;
+  limit = limit;
+  usable = true;
+} → given ≡ text → had ≡ events → j ≡ record { role = role; text = text; events = events; limit = limit; usable = true }
 as_made j role limit text given events had is same_text same_events = cc

@@ -32,10 +32,13 @@ same_file role text file c is = record { same_events = ap events_of is; no_new_h
 pub same_journal : (role : ℕ) (text file c : List ℕ) (events : List Event) → events ≡ events_of file → HasEvents role text events c → IsSameJournal role text file c
 same_journal role text file c events same has = record { same_events = has.events_are ∙ same; no_new_head = λ foreign. absurd (has.no_other_head foreign) }
 
-module _ {D : Type 0} (d : Ghosts D) (reads_an_outcome : (x : D) → IsTrue (d.tells x) → d.may_leave x (d.seen x)) (counts_now : (x : D) (t : ℕ) (c : List ℕ) → t ≤ d.moment x → d.may_leave x c → d.left_since x t c)
+module _ {D : Type 0} (d : Ghosts D) (reads_an_outcome : (x : D) → IsTrue (d.tells x) → d.may_leave x (d.seen x))
+    (counts_now : (x : D) (t : ℕ) (c : List ℕ) → t ≤ d.moment x → d.may_leave x c → d.left_since x t c)
     (only_now : (x : D) (c : List ℕ) → d.left_since x (d.moment x) c → d.may_leave x c) where
   -- what is read at the end of a run that leaves the same journal is that
-  pub keeps : (role : ℕ) (text : List ℕ) (old new : D) → (IsTrue (d.tells old) → LeavesOnly d.moment d.left_since old new (IsSameJournal role text (d.seen old))) → d.tells new ≡ d.tells old → d.faults old ≤ d.faults new
+  pub keeps : (role : ℕ) (text : List ℕ) (old new : D) →
+      (IsTrue (d.tells old) → LeavesOnly d.moment d.left_since old new (IsSameJournal role text (d.seen old))) → d.tells new ≡ d.tells old →
+      d.faults old ≤ d.faults new
       → KeepsJournal d role text old new
   keeps role text old new run same later = record {
     any_moment = run;
@@ -45,7 +48,8 @@ module _ {D : Type 0} (d : Ghosts D) (reads_an_outcome : (x : D) → IsTrue (d.t
     never_falls = later;
   }
 
-  module _ (role : ℕ) (text : List ℕ) (old mid : D) (quiet : Quiet d.tells d.seen d.may_leave d.moment d.left_since old mid) (later : d.faults old ≤ d.faults mid) (only : IsTrue (d.tells old) → Only (d.seen old) (d.may_leave old)) where
+  module _ (role : ℕ) (text : List ℕ) (old mid : D) (quiet : Quiet d.tells d.seen d.may_leave d.moment d.left_since old mid)
+      (later : d.faults old ≤ d.faults mid) (only : IsTrue (d.tells old) → Only (d.seen old) (d.may_leave old)) where
     moments : IsTrue (d.tells old) → LeavesOnly d.moment d.left_since old mid (IsSameJournal role text (d.seen old))
     moments told = weaker d.moment d.left_since old mid (d.may_leave old) (IsSameJournal role text (d.seen old)) quiet.any_moment (λ c left. same_file role text (d.seen old) c (only told c left))
 
@@ -77,7 +81,8 @@ module _ {D : Type 0} (d : Ghosts D) (reads_an_outcome : (x : D) → IsTrue (d.t
     }
 
     -- while what lies past the last gate is cut off
-    pub keeps_ended : (gate : ℕ) (events : List Event) (is_open : Bool) (new : D) → (IsTrue (d.tells old) → Resumed role text (d.seen old) gate events) → (IsTrue (d.tells old) → is_open ≡ (get_or (d.seen old) gate 0 == 1))
+    pub keeps_ended : (gate : ℕ) (events : List Event) (is_open : Bool) (new : D) →
+        (IsTrue (d.tells old) → Resumed role text (d.seen old) gate events) → (IsTrue (d.tells old) → is_open ≡ (get_or (d.seen old) gate 0 == 1))
         → ((before rest : List ℕ) (g : ℕ) → StandsAt d.tells d.seen d.may_leave mid gate before rest g → LeavesOnly d.moment d.left_since mid new (IsEnded before rest g is_open))
         → d.tells new ≡ d.tells mid → d.faults mid ≤ d.faults new → KeepsJournal d role text old new
     keeps_ended gate events is_open new resumed gate_open ends same more =
@@ -93,7 +98,8 @@ module _ {D : Type 0} (d : Ghosts D) (reads_an_outcome : (x : D) → IsTrue (d.t
         (same ∙ quiet.told_same) (omega (arith, later, more))
 
     -- and once it is
-    pub settled_ended : (gate limit : ℕ) (events : List NodeEvent) (is_open : Bool) (new : D) → (IsTrue (d.tells old) → Resumed role text (d.seen old) gate (events_seen events)) → (IsTrue (d.tells old) → is_open ≡ (get_or (d.seen old) gate 0 == 1))
+    pub settled_ended : (gate limit : ℕ) (events : List NodeEvent) (is_open : Bool) (new : D) →
+        (IsTrue (d.tells old) → Resumed role text (d.seen old) gate (events_seen events)) → (IsTrue (d.tells old) → is_open ≡ (get_or (d.seen old) gate 0 == 1))
         → ((before rest : List ℕ) (g : ℕ) → StandsAt d.tells d.seen d.may_leave mid gate before rest g → StandsAt d.tells d.seen d.may_leave new gate before [] (if is_open then 0 else g))
         → IsTrue (d.tells old) → IsSettled d.seen d.may_leave new (record { role = role; text = text; events = events; limit = limit; usable = true })
     settled_ended gate limit events is_open new resumed gate_open ends told =
@@ -116,7 +122,8 @@ module _ {D : Type 0} (d : Ghosts D) (reads_an_outcome : (x : D) → IsTrue (d.t
   }
 
   -- where it is done
-  module _ (role : ℕ) (text : List ℕ) (old mid new : D) (quiet : Quiet d.tells d.seen d.may_leave d.moment d.left_since old mid) (only : IsTrue (d.tells old) → Only (d.seen mid) (d.may_leave mid)) (run : KeepsJournal d role text mid new) where
+  module _ (role : ℕ) (text : List ℕ) (old mid new : D) (quiet : Quiet d.tells d.seen d.may_leave d.moment d.left_since old mid)
+      (only : IsTrue (d.tells old) → Only (d.seen mid) (d.may_leave mid)) (run : KeepsJournal d role text mid new) where
     told_mid : IsTrue (d.tells old) → IsTrue (d.tells mid)
     told_mid told = subst IsTrue (sym quiet.told_same) told
 
@@ -160,7 +167,8 @@ module _ {D : Type 0} (d : Ghosts D) (reads_an_outcome : (x : D) → IsTrue (d.t
     not_read old new NoMemory h = record { quiet = h.quiet; unfailed = h.cause }
 
     -- a quiet run, and then the file is opened
-    pub reopens_then : (old mid new : D) (r : Result Kept OpenFault) → Quiet d.tells d.seen d.may_leave d.moment d.left_since old mid → d.faults mid ≡ d.faults old → Reopens d role text limit mid new r → Reopens d role text limit old new r
+    pub reopens_then : (old mid new : D) (r : Result Kept OpenFault) → Quiet d.tells d.seen d.may_leave d.moment d.left_since old mid →
+        d.faults mid ≡ d.faults old → Reopens d role text limit mid new r → Reopens d role text limit old new r
     reopens_then old mid new (Ok j) quiet kept h =
         let told_mid : IsTrue (d.tells old) → IsTrue (d.tells mid) = λ told. subst IsTrue (sym quiet.told_same) told in
         record {
@@ -188,8 +196,10 @@ module _ {D : Type 0} (d : Ghosts D) (reads_an_outcome : (x : D) → IsTrue (d.t
     not_started disk NoMemory none h = nothing disk
 
     -- the journal that is started, and the one that is gone on with
-    pub is_started : (old new : D) (j : Kept) → j ≡ record { role = role; text = text; events = []; limit = limit; usable = true } → (IsTrue (d.tells old) → has_head (d.seen old) ≡ false) → end_of_head (length text) ≤ limit
-        → (IsTrue (d.tells old) → IsSettled d.seen d.may_leave new (record { role = role; text = text; events = []; limit = limit; usable = true })) → d.faults new ≡ d.faults old → IsOpened d role text limit old new j
+    pub is_started : (old new : D) (j : Kept) → j ≡ record { role = role; text = text; events = []; limit = limit; usable = true } →
+        (IsTrue (d.tells old) → has_head (d.seen old) ≡ false) → end_of_head (length text) ≤ limit
+        → (IsTrue (d.tells old) → IsSettled d.seen d.may_leave new (record { role = role; text = text; events = []; limit = limit; usable = true })) →
+        d.faults new ≡ d.faults old → IsOpened d role text limit old new j
     is_started old new j is none place settled kept = subst (IsOpened d role text limit old new) (sym is) (record {
       events_are = λ told. sym (headless (d.seen old) (none told));
       role_is = refl;
@@ -202,9 +212,23 @@ module _ {D : Type 0} (d : Ghosts D) (reads_an_outcome : (x : D) → IsTrue (d.t
       unfailed = kept;
     })
 
-    pub is_resumed : (old new : D) (j : Kept) (gate : ℕ) (events : List NodeEvent) → j ≡ record { role = role; text = text; events = events; limit = limit; usable = true } → (IsTrue (d.tells old) → has_head (d.seen old) ≡ true)
+    pub is_resumed : (old new : D) (j : Kept) (gate : ℕ) (events : List NodeEvent) → j ≡ record {
+      role = role;
+      text = text;
+      events = events;
+      limit =
+          limit;
+      usable = true;
+    } → (IsTrue (d.tells old) → has_head (d.seen old) ≡ true)
         → (IsTrue (d.tells old) → Resumed role text (d.seen old) gate (events_seen events))
-        → (IsTrue (d.tells old) → IsSettled d.seen d.may_leave new (record { role = role; text = text; events = events; limit = limit; usable = true })) → d.faults new ≡ d.faults old → IsOpened d role text limit old new j
+        → (IsTrue (d.tells old) → IsSettled d.seen d.may_leave new (record {
+          role = role;
+          text = text;
+          events = events;
+          limit = limit;
+          usable =
+              true;
+        })) → d.faults new ≡ d.faults old → IsOpened d role text limit old new j
     is_resumed old new j gate events is some r settled kept = subst (IsOpened d role text limit old new) (sym is) (record {
       events_are = λ told. sym (r told).events_are;
       role_is = refl;

@@ -15,7 +15,8 @@ use Rattle.aw_journal.proofs.Places.{through_place}
 use Rattle.aw_journal.proofs.Quiets.{quiet_none, quiet_then}
 
 -- some of what is held stands at its place in the file
-pub piece_held : (ahead file : List ℕ) (held start from n place : ℕ) → take held ahead ≡ take held (drop start file) → from + n ≤ held → start + from ≡ place → take n (drop from ahead) ≡ take n (drop place file)
+pub piece_held : (ahead file : List ℕ) (held start from n place : ℕ) → take held ahead ≡ take held (drop start file) → from + n ≤ held →
+    start + from ≡ place → take n (drop from ahead) ≡ take n (drop place file)
 piece_held ahead file held start from n place same within is =
     let rest = held - from in
     let sum : held ≡ from + rest = omega (arith, within) in
@@ -42,13 +43,15 @@ headed_by_two (gate ∷ []) = refl
 headed_by_two (gate ∷ byte ∷ rest) = refl
 
 -- a head and the gate behind it
-pub head_by_front : (role : ℕ) (text file front : List ℕ) → front ≡ take (length (1 ∷ head role text) + 1) file → (byte : ℕ) × (rest : List ℕ) × (front ≡ (1 ∷ head role text) ++ byte ∷ rest) → HasThisHead role text file
+pub head_by_front : (role : ℕ) (text file front : List ℕ) → front ≡ take (length (1 ∷ head role text) + 1) file → (byte : ℕ) × (rest : List ℕ)
+    × (front ≡ (1 ∷ head role text) ++ byte ∷ rest) → HasThisHead role text file
 head_by_front role text file front is has =
     let h = 1 ∷ head role text in
     let behind = drop (length h + 1) file in
     (has.0, has.1 ++ behind, sym (take-append-drop (length h + 1) file) ∙ ap (λ (l : List ℕ). l ++ behind) (sym is ∙ has.2) ∙ append_assoc h (has.0 ∷ has.1) behind)
 
-pub front_by_head : (role : ℕ) (text file front : List ℕ) → front ≡ take (length (1 ∷ head role text) + 1) file → HasThisHead role text file → (byte : ℕ) × (rest : List ℕ) × (front ≡ (1 ∷ head role text) ++ byte ∷ rest)
+pub front_by_head : (role : ℕ) (text file front : List ℕ) → front ≡ take (length (1 ∷ head role text) + 1) file → HasThisHead role text file →
+    (byte : ℕ) × (rest : List ℕ) × (front ≡ (1 ∷ head role text) ++ byte ∷ rest)
 front_by_head role text file front is has =
     let h = 1 ∷ head role text in
     (has.0, [], is ∙ ap (λ (l : List ℕ). take (length h + 1) l) has.2 ∙ through_place h has.1 has.0)

@@ -71,7 +71,8 @@ abbrev ending : List ℕ → Bool → Ending
 ending tail headed = made (standing_by tail headed) (length tail)
 
 -- a record begins in the tail, or its end tells
-pub ending_is : (tail : List ℕ) (headed : Bool) (s : Standing) (damaged : Bool) (n : ℕ) → damaged ≡ has_record tail → s ≡ (if damaged then Damaged else (if headed then by_tail tail else headless tail)) → n ≡ length tail →
+pub ending_is : (tail : List ℕ) (headed : Bool) (s : Standing) (damaged : Bool) (n : ℕ) → damaged ≡ has_record tail →
+    s ≡ (if damaged then Damaged else (if headed then by_tail tail else headless tail)) → n ≡ length tail →
     made s n ≡ ending tail headed
 ending_is tail headed s damaged n found is long =
     ap (λ (x : Standing). made x n) (is ∙ ap (λ (b : Bool). if b then Damaged else (if headed then by_tail tail else headless tail)) found) ∙ ap (λ (k : ℕ). made (standing_by tail headed) k) long

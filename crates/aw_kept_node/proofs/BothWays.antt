@@ -61,12 +61,26 @@ module _
             (s, Reading refl, subst (λ (k : S). Z k s) (sym e) h.0, subst (λ (k : S). G (end k s) n s) (sym e) h.1)
         stop-back n m s rest fault (Replying f behind e b) r = let h = halt n m s f fault b r in (h.0, Replying f behind e h.1, h.2, h.3)
 
-        stopped-back : (n m : S) (s : P) (read written : List ℕ) (fault : F) → IsStopped A breaks n m read written fault → R n s → (t : P) × IsStopped (B (end m t)) C s t read written tt × Z m t × G (end m t) n s
+        stopped-back : (n m : S) (s : P) (read written : List ℕ) (fault : F) → IsStopped A breaks n m read written fault → R n s → (t : P)
+            × IsStopped (B (end m t)) C s t read written tt × Z m t × G (end m t) n s
         stopped-back n m s read written fault h r =
             let them = answered-back n h.between s h.frames h.replies h.answered r in
             let stop = stop-back h.between m them.0 h.rest fault h.stops them.1 in
-            let back = them.2 (end m stop.0) stop.3 in
-            (stop.0, record { frames = h.frames; replies = h.replies; between = them.0; rest = h.rest; answered = back.0; yields = h.yields; written_is = h.written_is; stops = stop.1 }, stop.2, back.1)
+            let back = them.2 (end m stop.0) stop.3 in (
+              stop.0,
+              record {
+                frames = h.frames;
+                replies = h.replies;
+                between = them.0;
+                rest = h.rest;
+                answered = back.0;
+                yields = h.yields;
+                written_is = h.written_is;
+                stops = stop.1;
+              },
+              stop.2,
+              back.1,
+            )
 
         last-back : (role : ℕ) (n m : S) (s : P) (fault : F) (last : Option Session) → LastStops A breaks role n m fault last → R n s →
             (t : P) × LastStops (B (end m t)) C role s t tt last × Z m t × G (end m t) n s

@@ -25,11 +25,13 @@ abbrev pub IsOneOf : ℕ → List ℕ → List Event → Option Event → List �
 IsOneOf role text events event file = HasEvents role text events file ⊎ HasEvents role text (with_event events event) file
 
 -- the same by another name of the head and the events
-pub has-as : (j : Kept) (role : ℕ) (text : List ℕ) (seen events : List Event) (file : List ℕ) → j.role ≡ role → j.text ≡ text → seen ≡ events → HasEvents j.role j.text seen file → HasEvents role text events file
+pub has-as : (j : Kept) (role : ℕ) (text : List ℕ) (seen events : List Event) (file : List ℕ) → j.role ≡ role → j.text ≡ text → seen ≡ events →
+    HasEvents j.role j.text seen file → HasEvents role text events file
 has-as j role text seen events file same_role same_text same h =
     subst (λ (n : ℕ). HasEvents n text events file) same_role (subst (λ (t : List ℕ). HasEvents j.role t events file) same_text (subst (λ (es : List Event). HasEvents j.role j.text es file) same h))
 
-pub between-one : (role : ℕ) (text : List ℕ) (first last events : List Event) (event : Option Event) (file : List ℕ) → Begins first events → Begins (with_event events event) last → IsOneOf role text events event file →
+pub between-one : (role : ℕ) (text : List ℕ) (first last events : List Event) (event : Option Event) (file : List ℕ) → Begins first events →
+    Begins (with_event events event) last → IsOneOf role text events event file →
     IsBetween role text first last file
 between-one role text first last events event file b t (inl h) = record {
   own = h.no_other_head;
@@ -43,7 +45,8 @@ between-one role text first last events event file b t (inr h) = record {
 }
 
 -- between earlier first events and later last ones
-pub between-wider : (role : ℕ) (text : List ℕ) (first last start end : List Event) (file : List ℕ) → Begins start first → Begins last end → IsBetween role text first last file → IsBetween role text start end file
+pub between-wider : (role : ℕ) (text : List ℕ) (first last start end : List Event) (file : List ℕ) → Begins start first → Begins last end →
+    IsBetween role text first last file → IsBetween role text start end file
 between-wider role text first last start end file b t h = record {
   own = h.own;
   from = begins-trans start first (events_of file) b h.from;

@@ -92,7 +92,8 @@ by-push r s [] e = refl
 by-push r s (x ∷ es) e = by-push r (after_event r s x) es e
 
 -- the site behind a frame, with the event that the frame was
-pub made-with : (r : Rules) (s : Site) (k : KeptSite) (f : F.Frame) (event : Option Event) → IsMadeOf r s k → kept_of r k.site f ≡ event → IsMadeOf r s (record { site = (handle r k.site f).site; events = with_event k.events event })
+pub made-with : (r : Rules) (s : Site) (k : KeptSite) (f : F.Frame) (event : Option Event) → IsMadeOf r s k → kept_of r k.site f ≡ event →
+    IsMadeOf r s (record { site = (handle r k.site f).site; events = with_event k.events event })
 made-with r s k f None h is = record { kept = h.kept; made = kept-none r k.site f is ∙ h.made }
 made-with r s k f (Some e) h is =
     let one = kept-some r k.site f e is in

@@ -41,9 +41,11 @@ module _
     (name : N → T)
     (A : N → Frame → List ℕ → N → Type 0)
     (step : (n m : N) (f : Frame) (x : List ℕ) → A n f x m →
-    AnswersAndKeeps d (rules n) f (shows n) (shows m) (journal n) (journal m) (disk n) (disk m) x × (rules m ≡ rules n) × (name m ≡ name n) × (reason m ≡ reason n) × (d.faults (disk m) ≡ d.faults (disk n)))
+    AnswersAndKeeps d (rules n) f (shows n) (shows m) (journal n) (journal m) (disk n) (disk m) x × (rules m ≡ rules n) × (name m ≡ name n)
+    × (reason m ≡ reason n) × (d.faults (disk m) ≡ d.faults (disk n)))
     (B : N → Frame → Unanswered → N → Type 0)
-    (stop : (n m : N) (f : Frame) (e : Unanswered) → B n f e m → FailsAsSeen d (rules n) f (shows n) (journal n) (disk n) (disk m) (reason m) × (name m ≡ name n) × (reason m ≢ DiskFault → d.faults (disk m) ≡ d.faults (disk n)))
+    (stop : (n m : N) (f : Frame) (e : Unanswered) → B n f e m → FailsAsSeen d (rules n) f (shows n) (journal n) (disk n) (disk m) (reason m)
+    × (name m ≡ name n) × (reason m ≢ DiskFault → d.faults (disk m) ≡ d.faults (disk n)))
   where
     -- ---- a node keeps its name
 
@@ -62,7 +64,8 @@ module _
     pub named-stopped : (role : ℕ) (n m : N) (u v : W) (why : Stopped Unanswered) → StopsServing A B w.content w.failed_openings role n m u v why → name m ≡ name n
     named-stopped role n m u v stopped.NetFault h = (all-served-as N (Unit {0}) A Anything (Named (name n)) (name-sim (name n)) role n m tt h.sessions h.log h.served refl).2
     named-stopped role n m u v (stopped.Node e) h =
-        (cut-off-with N (Unit {0}) A Anything (Named (name n)) (name-sim (name n)) B (Named (name n)) (λ a b s f fault p r. (stop a b f fault p).1 ∙ r) (λ a s r. r) W w.content role n m tt u v e h refl).1
+        (cut-off-with N (Unit {0}) A Anything (Named (name n)) (name-sim (name n)) B (Named (name n)) (λ a b s f fault p r. (stop a b f fault p).1
+        ∙ r) (λ a s r. r) W w.content role n m tt u v e h refl).1
 
     -- ---- its disk counts no fault that it does not tell
 
@@ -78,14 +81,18 @@ module _
     pub counted-served : (role : ℕ) (n m : N) (u v : W) (log : List SessionLog) → IsServing A w.content w.faults w.failed_openings role n m u v log → d.faults (disk m) ≡ d.faults (disk n)
     counted-served role n m u v log h = (all-served-as N (Unit {0}) A Anything (HasCounted (d.faults (disk n))) (count-sim (d.faults (disk n))) role n m tt h.sessions log h.served refl).2
 
-    pub counted-unopened : (role : ℕ) (n m : N) (u v : W) (why : Stopped Unanswered) → StopsServing A B w.content w.failed_openings role n m u v why → why ≡ stopped.NetFault → d.faults (disk m) ≡ d.faults (disk n)
-    counted-unopened role n m u v stopped.NetFault h is = (all-served-as N (Unit {0}) A Anything (HasCounted (d.faults (disk n))) (count-sim (d.faults (disk n))) role n m tt h.sessions h.log h.served refl).2
+    pub counted-unopened : (role : ℕ) (n m : N) (u v : W) (why : Stopped Unanswered) → StopsServing A B w.content w.failed_openings role n m u v why →
+        why ≡ stopped.NetFault → d.faults (disk m) ≡ d.faults (disk n)
+    counted-unopened role n m u v stopped.NetFault h is = (all-served-as N (Unit {0}) A Anything (HasCounted (d.faults (disk n)))
+        (count-sim (d.faults (disk n))) role n m tt h.sessions h.log h.served refl).2
     counted-unopened role n m u v (stopped.Node e) h is = absurd (cc is)
 
-    pub counted-stopped : (role : ℕ) (n m : N) (u v : W) (why : Stopped Unanswered) → StopsServing A B w.content w.failed_openings role n m u v why → reason m ≢ DiskFault → d.faults (disk m) ≡ d.faults (disk n)
+    pub counted-stopped : (role : ℕ) (n m : N) (u v : W) (why : Stopped Unanswered) → StopsServing A B w.content w.failed_openings role n m u v why →
+        reason m ≢ DiskFault → d.faults (disk m) ≡ d.faults (disk n)
     counted-stopped role n m u v stopped.NetFault h other = counted-unopened role n m u v stopped.NetFault h refl
     counted-stopped role n m u v (stopped.Node e) h other =
-        (cut-off-with N (Unit {0}) A Anything (HasCounted (d.faults (disk n))) (count-sim (d.faults (disk n))) B (TellsFaults (d.faults (disk n))) (λ a b s f fault p r told. (stop a b f fault p).2 told ∙ r) (λ a s r told. r) W w.content role n m tt u v e h refl).1 other
+        (cut-off-with N (Unit {0}) A Anything (HasCounted (d.faults (disk n))) (count-sim (d.faults (disk n))) B (TellsFaults (d.faults (disk n)))
+        (λ a b s f fault p r told. (stop a b f fault p).2 told ∙ r) (λ a s r told. r) W w.content role n m tt u v e h refl).1 other
 
     -- ---- it stands by its site
 
@@ -140,7 +147,8 @@ module _
     node-still : (o : Origin D) (n : N) (l : Standing) → StandsBy o n l → HaltsBy o n l × IsSafe o (at-end n l) n l
     node-still o n l r = (
       subst (λ (a : AppendFault). Halts d o (disk n) l a) (sym r.2)
-          (subst (λ (e : Option Event). Halts d o (disk n) (record { kept = l.kept; in_hand = e; moment = l.moment }) NoMemory) (sym r.3) (halts-still d o reads counts (shows n) (journal n) (disk n) l.kept l.moment r.0)),
+          (subst (λ (e : Option Event). Halts d o (disk n) (record { kept = l.kept; in_hand = e; moment = l.moment }) NoMemory) (sym r.3)
+          (halts-still d o reads counts (shows n) (journal n) (disk n) l.kept l.moment r.0)),
       subst (λ (e : Option Event). RunsSafely d o (disk n) (with_event l.kept.events e) (disk n) l.kept.events) (sym r.3)
           (safely-here d o only_now (shows n) (journal n) (disk n) l.kept.events l.kept r.0 (begins-same l.kept.events l.kept.events refl)),
     )
@@ -152,10 +160,12 @@ module _
     abbrev AnswersFrom : Origin D → N → KeptSite → Type 0
     AnswersFrom o n k = Stands d o (shows n) (journal n) (disk n) k × (rules n ≡ o.rules) × (reason n ≡ NoMemory)
 
-    pub goes-on : (o : Origin D) (role : ℕ) (n m : N) (k : KeptSite) (u v : W) (log : List SessionLog) → o.role ≡ role → IsServing A w.content w.faults w.failed_openings role n m u v log → AnswersFrom o n k →
+    pub goes-on : (o : Origin D) (role : ℕ) (n m : N) (k : KeptSite) (u v : W) (log : List SessionLog) → o.role ≡ role →
+        IsServing A w.content w.faults w.failed_openings role n m u v log → AnswersFrom o n k →
         GoesOn w d o k (d.moment (disk n)) u v (shows m) (journal m) (disk m) log
     goes-on o role n m k u v log e h r =
-        let all = all-served-back N Standing (D × List Event) A (Replies o) (StandsBy o) (IsSafe o) (node-sim o) role n m (standing k (d.moment (disk n))) h.sessions log h.served (r.0, r.1, r.2, refl, refl) in
+        let all = all-served-back N Standing (D × List Event) A (Replies o) (StandsBy o) (IsSafe o) (node-sim o) role n m
+        (standing k (d.moment (disk n))) h.sessions log h.served (r.0, r.1, r.2, refl, refl) in
         let back = all.2 (disk m, all.0.kept.events) (safe-here o m all.0 all.1) in
         record {
           after = all.0;
@@ -165,10 +175,12 @@ module _
           stands = all.1.0;
         }
 
-    pub stops-node : (o : Origin D) (role : ℕ) (n m : N) (k : KeptSite) (u v : W) (why : Stopped Unanswered) → o.role ≡ role → StopsServing A B w.content w.failed_openings role n m u v why → AnswersFrom o n k →
+    pub stops-node : (o : Origin D) (role : ℕ) (n m : N) (k : KeptSite) (u v : W) (why : Stopped Unanswered) → o.role ≡ role →
+        StopsServing A B w.content w.failed_openings role n m u v why → AnswersFrom o n k →
         StopsNode w d o k (d.moment (disk n)) u v (shows m) (journal m) (disk m) (reason m) why
     stops-node o role n m k u v stopped.NetFault e h r =
-        let all = all-served-back N Standing (D × List Event) A (Replies o) (StandsBy o) (IsSafe o) (node-sim o) role n m (standing k (d.moment (disk n))) h.sessions h.log h.served (r.0, r.1, r.2, refl, refl) in
+        let all = all-served-back N Standing (D × List Event) A (Replies o) (StandsBy o) (IsSafe o) (node-sim o) role n m
+        (standing k (d.moment (disk n))) h.sessions h.log h.served (r.0, r.1, r.2, refl, refl) in
         let back = all.2 (disk m, all.0.kept.events) (safe-here o m all.0 all.1) in
         record {
           after = all.0;
@@ -183,6 +195,7 @@ module _
         record {
           after = all.0;
           safe = safe-since d o (disk m) (disk n) (with_event all.0.kept.events all.0.in_hand) k.events all.3;
-          served = subst (λ (q : ℕ). IsCutOff {F = Unit {0}} (RepliesSafely d o (disk m) (with_event all.0.kept.events all.0.in_hand)) (LeavesInHand o.rules) w.content q (standing k (d.moment (disk n))) all.0 u v tt) (sym e) all.1;
+          served = subst (λ (q : ℕ). IsCutOff {F = Unit {0}} (RepliesSafely d o (disk m) (with_event all.0.kept.events all.0.in_hand))
+              (LeavesInHand o.rules) w.content q (standing k (d.moment (disk n))) all.0 u v tt) (sym e) all.1;
           halted = all.2;
         }

@@ -27,13 +27,15 @@ use Rattle.aw_kept_node.proofs.Exits.{begins-same, between-one}
 use Rattle.aw_kept_node.proofs.Steps.{left-standing}
 
 -- what stands by some values stands by the same values under other names
-pub stands-here : {D P : Type 0} (d : disks.Ghosts D) (o : Origin D) (shows : P → Site → Type 0) (p q : P) (j k : Kept) (x y : D) (l : KeptSite) → p ≡ q → j ≡ k → x ≡ y → Stands d o (shows q) k y l → Stands d o (shows p) j x l
+pub stands-here : {D P : Type 0} (d : disks.Ghosts D) (o : Origin D) (shows : P → Site → Type 0) (p q : P) (j k : Kept) (x y : D) (l : KeptSite) →
+    p ≡ q → j ≡ k → x ≡ y → Stands d o (shows q) k y l → Stands d o (shows p) j x l
 stands-here {D} {P} d o shows p q j k x y l site journal disk h =
     subst (λ (z : P). Stands d o (shows z) j x l) (sym site) (subst (λ (z : Kept). Stands d o (shows q) z x l) (sym journal) (subst (λ (z : D). Stands d o (shows q) k z l) (sym disk) h))
 
 module _ {W D : Type 0} (w : wires.Ghosts W) (d : disks.Ghosts D) (r : Rules) (role : ℕ) (text : List ℕ) (s : Site) (old : D) where
   -- its events were not done again
-  pub not-redone : (u : W) (new : D) (events : List Event) (fault : KeptFault) → StopsRedoing r s events fault → IsNotBegun d role text u u old new → IsReopened d role text old events → StopsKept w d r role text s u u old new fault
+  pub not-redone : (u : W) (new : D) (events : List Event) (fault : KeptFault) → StopsRedoing r s events fault → IsNotBegun d role text u u old new →
+      IsReopened d role text old events → StopsKept w d r role text s u u old new fault
   not-redone u new events NetFault h none is = absurd h
   not-redone u new events DiskFault h none is = absurd h
   not-redone u new events BadHead h none is = absurd h
@@ -45,7 +47,8 @@ module _ {W D : Type 0} (w : wires.Ghosts W) (d : disks.Ghosts D) (r : Rules) (r
   has-first : (j : Kept) (c : List ℕ) → IsReopened d role text old (events_seen j.events) → IsTrue (d.tells old) → IsSameJournal role text (d.seen old) c → HasEvents role text (events_seen j.events) c
   has-first j c is told h = record { events_are = h.same_events ∙ sym (is.are_read told); no_other_head = λ other. is.own_head told (h.no_new_head other) }
 
-  between-first : (j : Kept) (c : List ℕ) → IsReopened d role text old (events_seen j.events) → IsTrue (d.tells old) → IsSameJournal role text (d.seen old) c → IsBetween role text (events_seen j.events) (events_seen j.events) c
+  between-first : (j : Kept) (c : List ℕ) → IsReopened d role text old (events_seen j.events) → IsTrue (d.tells old) → IsSameJournal role text
+      (d.seen old) c → IsBetween role text (events_seen j.events) (events_seen j.events) c
   between-first j c is told h =
       let events = events_seen j.events in
       between-one role text events events events None c (begins-same events events refl) (begins-same events events refl) (inl (has-first j c is told h))
@@ -75,8 +78,10 @@ module _ {W D : Type 0} (w : wires.Ghosts W) (d : disks.Ghosts D) (r : Rules) (r
       }
 
   -- where reopening answered, its first sync was done by then
-  pub synced-by : (only_now : (x : D) (c : List ℕ) → d.left_since x (d.moment x) c → d.may_leave x c) (new : D) (j : Kept) → LeavesOnly d.moment d.left_since old new (IsOldOrSame role text (d.may_leave old) (d.seen old)) →
-      OldUntilSynced d (IsSameJournal role text (d.seen old)) old new → IsSettled d.seen d.may_leave new j → IsSameJournal role text (d.seen old) (d.seen new) → FirstSync d (IsSameJournal role text (d.seen old)) old new
+  pub synced-by : (only_now : (x : D) (c : List ℕ) → d.left_since x (d.moment x) c → d.may_leave x c) (new : D) (j : Kept) →
+      LeavesOnly d.moment d.left_since old new (IsOldOrSame role text (d.may_leave old) (d.seen old)) →
+      OldUntilSynced d (IsSameJournal role text (d.seen old)) old new → IsSettled d.seen d.may_leave new j → IsSameJournal role text (d.seen old)
+      (d.seen new) → FirstSync d (IsSameJournal role text (d.seen old)) old new
   synced-by only_now new j run (inl none) settled reads = record {
     done_at = d.moment new;
     began = run.later;
@@ -91,7 +96,8 @@ module _ {W D : Type 0} (w : wires.Ghosts W) (d : disks.Ghosts D) (r : Rules) (r
       (counts : (x : D) (t : ℕ) (c : List ℕ) → t ≤ d.moment x → d.may_leave x c → d.left_since x t c)
     where
       -- all sessions were served
-      pub kept-serving : (u v : W) (new : D) (moment : ℕ) (events : List Event) (shows start : Site → Type 0) (j : Kept) (log : List SessionLog) → IsReopened d role text old events → RedoesAll r s events start →
+      pub kept-serving : (u v : W) (new : D) (moment : ℕ) (events : List Event) (shows start : Site → Type 0) (j : Kept) (log : List SessionLog) →
+          IsReopened d role text old events → RedoesAll r s events start →
           GoesOn w d (begun_at r s role text events old) (reopened r s events) moment u v shows j new log → IsKeptServing w d r role text s u v old new log
       kept-serving u v new moment events shows start j log is redone h = record {
         events = events;
@@ -107,7 +113,8 @@ module _ {W D : Type 0} (w : wires.Ghosts W) (d : disks.Ghosts D) (r : Rules) (r
       }
 
       -- no session could be opened
-      pub kept-unopened : (u v : W) (new : D) (moment : ℕ) (events : List Event) (shows start : Site → Type 0) (j : Kept) (reason : AppendFault) (why : Stopped Unanswered) → why ≡ stopped.NetFault → IsReopened d role text old events →
+      pub kept-unopened : (u v : W) (new : D) (moment : ℕ) (events : List Event) (shows start : Site → Type 0) (j : Kept) (reason : AppendFault)
+          (why : Stopped Unanswered) → why ≡ stopped.NetFault → IsReopened d role text old events →
           RedoesAll r s events start → StopsNode w d (begun_at r s role text events old) (reopened r s events) moment u v shows j new reason why → IsKeptUnopened w d r role text s u v old new
       kept-unopened u v new moment events shows start j reason why net is redone stops =
           let h = subst (λ (x : Stopped Unanswered). StopsNode w d (begun_at r s role text events old) (reopened r s events) moment u v shows j new reason x) net stops in
@@ -125,7 +132,8 @@ module _ {W D : Type 0} (w : wires.Ghosts W) (d : disks.Ghosts D) (r : Rules) (r
           }
 
       -- a frame got no reply
-      kept-cut-off : (u v : W) (new : D) (moment : ℕ) (events : List Event) (shows start : Site → Type 0) (j : Kept) (reason : AppendFault) (e : Unanswered) → IsReopened d role text old events → RedoesAll r s events start →
+      kept-cut-off : (u v : W) (new : D) (moment : ℕ) (events : List Event) (shows start : Site → Type 0) (j : Kept) (reason : AppendFault)
+          (e : Unanswered) → IsReopened d role text old events → RedoesAll r s events start →
           StopsNode w d (begun_at r s role text events old) (reopened r s events) moment u v shows j new reason (stopped.Node e) → IsKeptCutOff w d r role text s u v old new reason
       kept-cut-off u v new moment events shows start j reason e is redone h =
           record { events = events; opened = is; kept = redone.0; opened_at = moment; after = h.after; safe = h.safe; served = h.served; halted = h.halted }
@@ -135,7 +143,8 @@ module _ {W D : Type 0} (w : wires.Ghosts W) (d : disks.Ghosts D) (r : Rules) (r
       kept-fault u v new append.Full h = inr h
       kept-fault u v new append.NoMemory h = inr h
 
-      pub kept-stopped : (u v : W) (new : D) (moment : ℕ) (events : List Event) (shows start : Site → Type 0) (j : Kept) (reason : AppendFault) (why : Stopped Unanswered) (e : Unanswered) (fault : KeptFault) → why ≡ stopped.Node e → fault ≡ of_append reason →
+      pub kept-stopped : (u v : W) (new : D) (moment : ℕ) (events : List Event) (shows start : Site → Type 0) (j : Kept) (reason : AppendFault)
+          (why : Stopped Unanswered) (e : Unanswered) (fault : KeptFault) → why ≡ stopped.Node e → fault ≡ of_append reason →
           IsReopened d role text old events → RedoesAll r s events start →
           StopsNode w d (begun_at r s role text events old) (reopened r s events) moment u v shows j new reason why → StopsKept w d r role text s u v old new fault
       kept-stopped u v new moment events shows start j reason why e fault node from is redone stops =

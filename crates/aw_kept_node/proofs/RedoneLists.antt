@@ -26,7 +26,8 @@ seen-more es i j e n l s =
     ∙ (ap events_seen (take_more es i e l) ∙ (ap (λ (z : NodeEvent). events_seen (take i es ++ z ∷ [])) (sym s) ∙ events_push (take i es) e))
 
 -- one event more was done again
-pub redone-more : (r : Rules) (s : Site) (shows : Site → Type 0) (es : List NodeEvent) (i j : ℕ) (e : NodeEvent) → j ≡ i + 1 → i < length es → e ≡ get_or es i e → AreKept r s (events_seen (take i es)) →
+pub redone-more : (r : Rules) (s : Site) (shows : Site → Type 0) (es : List NodeEvent) (i j : ℕ) (e : NodeEvent) → j ≡ i + 1 → i < length es →
+    e ≡ get_or es i e → AreKept r s (events_seen (take i es)) →
     Redoes r (site_by r s (events_seen (take i es))) (event_of e) shows → RedoesAll r s (events_seen (take j es)) shows
 redone-more r s shows es i j e n l at kept h =
     subst (λ (xs : List Event). RedoesAll r s xs shows) (sym (seen-more es i j e n l at))
@@ -44,7 +45,8 @@ long-at (x ∷ es) zero l = refl
 long-at (x ∷ es) (suc i) l = ap suc (long-at es i (omega (arith, l)))
 
 -- an event was none
-pub stopped-at : (r : Rules) (s : Site) (es : List NodeEvent) (i number : ℕ) (e : NodeEvent) (fault : KeptFault) → number ≡ i → i < length es → e ≡ get_or es i e → AreKept r s (events_seen (take i es)) →
+pub stopped-at : (r : Rules) (s : Site) (es : List NodeEvent) (i number : ℕ) (e : NodeEvent) (fault : KeptFault) → number ≡ i → i < length es →
+    e ≡ get_or es i e → AreKept r s (events_seen (take i es)) →
     StopsAt r (site_by r s (events_seen (take i es))) number (event_of e) fault → StopsRedoing r s (events_seen es) fault
 stopped-at r s es i number e NetFault n l at kept h = absurd h
 stopped-at r s es i number e DiskFault n l at kept h = absurd h

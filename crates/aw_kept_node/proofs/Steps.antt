@@ -46,7 +46,8 @@ module _ {D : Type 0} (d : Ghosts D) (o : Origin D) where
       inr (has-as j o.role o.text (events_seen j.events ++ e ∷ []) (l.events ++ e ∷ []) c st.same_role st.same_text (ap (λ (es : List Event). es ++ e ∷ []) st.same) after)
 
   -- and so between the first events and last ones that have it
-  between-of : (shows : Site → Type 0) (j : Kept) (now : D) (l : KeptSite) (e : Event) (first last : List Event) (c : List ℕ) → Stands d o shows j now l → Begins first l.events → Begins (l.events ++ e ∷ []) last → IsBeforeOrAfter j e c →
+  between-of : (shows : Site → Type 0) (j : Kept) (now : D) (l : KeptSite) (e : Event) (first last : List Event) (c : List ℕ) →
+      Stands d o shows j now l → Begins first l.events → Begins (l.events ++ e ∷ []) last → IsBeforeOrAfter j e c →
       IsBetween o.role o.text first last c
   between-of shows j now l e first last c st b t h = between-one o.role o.text first last l.events (Some e) c b t (one-of shows j now l e c st h)
 
@@ -56,7 +57,8 @@ module _ {D : Type 0} (d : Ghosts D) (o : Origin D) where
   moments-more shows j old new l e st writes told =
       let all = IsOldOrBetween (d.may_leave o.disk) o.role o.text o.first (l.events ++ e ∷ []) in
       runs_on d.moment d.left_since o.disk old new all (IsBeforeOrAfter j e)
-      (weaker d.moment d.left_since o.disk old (IsOldOrBetween (d.may_leave o.disk) o.role o.text o.first l.events) all (st.moments told) (λ c h. old-or-more (d.may_leave o.disk) o.role o.text o.first l.events (Some e) c h))
+      (weaker d.moment d.left_since o.disk old (IsOldOrBetween (d.may_leave o.disk) o.role o.text o.first l.events) all (st.moments told)
+      (λ c h. old-or-more (d.may_leave o.disk) o.role o.text o.first l.events (Some e) c h))
       (writes.moments (told-now shows j old l st told))
       (λ c h. inr (between-of shows j old l e o.first (l.events ++ e ∷ []) c st st.begins (begins-same (l.events ++ e ∷ []) (l.events ++ e ∷ []) refl) h))
 
@@ -69,7 +71,8 @@ module _ {D : Type 0} (d : Ghosts D) (o : Origin D) where
       (λ c h. between-wider o.role o.text o.first l.events o.first (l.events ++ e ∷ []) c (begins-same o.first o.first refl) (begins-with l.events (Some e)) h)
       (λ c h. between-of shows j old l e o.first (l.events ++ e ∷ []) c st st.begins (begins-same (l.events ++ e ∷ []) (l.events ++ e ∷ []) refl) h)
 
-  stands-with : (shows after : Site → Type 0) (j k : Kept) (old new : D) (f : Frame) (l : KeptSite) (event : Option Event) → after (handle o.rules l.site f).site → kept_of o.rules l.site f ≡ event → Appends d event j k old new → Stands d o shows j old l →
+  stands-with : (shows after : Site → Type 0) (j k : Kept) (old new : D) (f : Frame) (l : KeptSite) (event : Option Event) →
+      after (handle o.rules l.site f).site → kept_of o.rules l.site f ≡ event → Appends d event j k old new → Stands d o shows j old l →
       Stands d o after k new (record { site = (handle o.rules l.site f).site; events = with_event l.events event })
   stands-with shows after j k old new f l None shown is same st =
       subst (λ (x : Kept). Stands d o after x new (record { site = (handle o.rules l.site f).site; events = l.events })) (sym same.0)
@@ -126,7 +129,8 @@ module _ {D : Type 0} (d : Ghosts D) (o : Origin D) where
   safe-since end now last events run told = record { passed = (run.1 told).later; left = (run.1 told).each }
 
   -- an event was added, and the run goes on
-  more-safely : (shows : Site → Type 0) (j : Kept) (old new end : D) (last : List Event) (l : KeptSite) (e : Event) → Stands d o shows j old l → Writes d e j old new → RunsSafely end last new (l.events ++ e ∷ []) → RunsSafely end last old l.events
+  more-safely : (shows : Site → Type 0) (j : Kept) (old new end : D) (last : List Event) (l : KeptSite) (e : Event) → Stands d o shows j old l →
+      Writes d e j old new → RunsSafely end last new (l.events ++ e ∷ []) → RunsSafely end last old l.events
   more-safely shows j old new end last l e st writes run = (
     begins-trans l.events (l.events ++ e ∷ []) last (begins-with l.events (Some e)) run.0,
     λ told. runs_on d.moment d.left_since old new end (IsBetween o.role o.text l.events last) (IsBetween o.role o.text (l.events ++ e ∷ []) last)
@@ -136,17 +140,20 @@ module _ {D : Type 0} (d : Ghosts D) (o : Origin D) where
         (λ c h. between-wider o.role o.text (l.events ++ e ∷ []) last l.events last c (begins-with l.events (Some e)) (begins-same last last refl) h),
   )
 
-  safely-with : (shows : Site → Type 0) (j k : Kept) (old new end : D) (last : List Event) (l : KeptSite) (event : Option Event) → Stands d o shows j old l → Appends d event j k old new → RunsSafely end last new (with_event l.events event) →
+  safely-with : (shows : Site → Type 0) (j k : Kept) (old new end : D) (last : List Event) (l : KeptSite) (event : Option Event) →
+      Stands d o shows j old l → Appends d event j k old new → RunsSafely end last new (with_event l.events event) →
       RunsSafely end last old l.events
   safely-with shows j k old new end last l None st same run = subst (λ (x : D). RunsSafely end last x l.events) same.1 run
   safely-with shows j k old new end last l (Some e) st more run = more-safely shows j old new end last l e st more.writes run
 
-  later-with : (shows : Site → Type 0) (j k : Kept) (old new : D) (l : KeptSite) (event : Option Event) → Stands d o shows j old l → Appends d event j k old new → IsTrue (d.tells o.disk) → d.moment old ≤ d.moment new
+  later-with : (shows : Site → Type 0) (j k : Kept) (old new : D) (l : KeptSite) (event : Option Event) → Stands d o shows j old l →
+      Appends d event j k old new → IsTrue (d.tells o.disk) → d.moment old ≤ d.moment new
   later-with shows j k old new l None st same told = subst (λ (x : D). d.moment old ≤ d.moment x) (sym same.1) (omega arith)
   later-with shows j k old new l (Some e) st more told = (more.writes.moments (told-now shows j old l st told)).later
 
   -- what was answered with a frame is safe where what comes after it is
-  pub answers-safely : (shows after : Site → Type 0) (j k : Kept) (old new end : D) (last : List Event) (f : Frame) (x : List ℕ) (l : KeptSite) → AnswersAndKeeps d o.rules f shows after j k old new x → Stands d o shows j old l →
+  pub answers-safely : (shows after : Site → Type 0) (j k : Kept) (old new end : D) (last : List Event) (f : Frame) (x : List ℕ) (l : KeptSite) →
+      AnswersAndKeeps d o.rules f shows after j k old new x → Stands d o shows j old l →
       RunsSafely end last new (after_frame o.rules l f).events → RunsSafely end last old l.events × (IsTrue (d.tells o.disk) → d.moment old ≤ d.moment new)
   answers-safely shows after j k old new end last f x l h st run =
       let appends = h.1 l.site st.shown in
@@ -162,7 +169,8 @@ module _ {D : Type 0} (d : Ghosts D) (o : Origin D) where
     )
 
     -- the last frame was handled, and its event written in part or whole
-    pub tries-safely : (shows : Site → Type 0) (j : Kept) (old new : D) (l : KeptSite) (event : Option Event) → Stands d o shows j old l → Tries d event j old new → RunsSafely new (with_event l.events event) old l.events
+    pub tries-safely : (shows : Site → Type 0) (j : Kept) (old new : D) (l : KeptSite) (event : Option Event) → Stands d o shows j old l →
+        Tries d event j old new → RunsSafely new (with_event l.events event) old l.events
     tries-safely shows j old new l event st (inl same) =
         subst (λ (x : D). RunsSafely x (with_event l.events event) old l.events) (sym same) (safely-here shows j old (with_event l.events event) l st (begins-with l.events event))
     tries-safely shows j old new l event st (inr h) =
@@ -186,7 +194,8 @@ module _ {D : Type 0} (d : Ghosts D) (o : Origin D) where
       }
 
       -- what is left where nothing more was written, or an event
-      images-of : (shows : Site → Type 0) (j : Kept) (old new : D) (l : KeptSite) (event : Option Event) → Stands d o shows j old l → Tries d event j old new → IsTrue (d.tells o.disk) → (c : List ℕ) → d.may_leave new c →
+      images-of : (shows : Site → Type 0) (j : Kept) (old new : D) (l : KeptSite) (event : Option Event) → Stands d o shows j old l →
+          Tries d event j old new → IsTrue (d.tells o.disk) → (c : List ℕ) → d.may_leave new c →
           IsOneOf o.role o.text l.events event c
       images-of shows j old new l event st (inl same) told c left = inl (st.durable told c (subst (λ (x : D). d.may_leave x c) same left))
       images-of shows j old new l event st (inr h) told c left =
@@ -224,19 +233,22 @@ module _ {D : Type 0} (d : Ghosts D) (o : Origin D) where
       faults-of shows j old new l event st (inl same) = subst (λ (x : D). d.faults o.disk ≤ d.faults x) (sym same) st.never_falls
       faults-of shows j old new l event st (inr h) = omega (arith, h.2.never_falls, st.never_falls)
 
-      rose-of : (shows : Site → Type 0) (j : Kept) (old new : D) (l : KeptSite) (event : Option Event) (fault : AppendFault) → Stands d o shows j old l → Because d event j old new fault → fault ≡ DiskFault → Rose (d.faults o.disk) (d.faults new)
+      rose-of : (shows : Site → Type 0) (j : Kept) (old new : D) (l : KeptSite) (event : Option Event) (fault : AppendFault) →
+          Stands d o shows j old l → Because d event j old new fault → fault ≡ DiskFault → Rose (d.faults o.disk) (d.faults new)
       rose-of shows j old new l event DiskFault st h e = rose-since (d.faults o.disk) (d.faults old) (d.faults new) st.never_falls h
       rose-of shows j old new l event Full st h e = absurd (cc e)
       rose-of shows j old new l event NoMemory st h e = absurd (cc e)
 
-      full-of : (shows : Site → Type 0) (j : Kept) (old new : D) (l : KeptSite) (event : Option Event) (fault : AppendFault) → Stands d o shows j old l → Because d event j old new fault → fault ≡ Full →
+      full-of : (shows : Site → Type 0) (j : Kept) (old new : D) (l : KeptSite) (event : Option Event) (fault : AppendFault) →
+          Stands d o shows j old l → Because d event j old new fault → fault ≡ Full →
           (e : Event) × (event ≡ Some e) × (o.limit < length (front o.role o.text (l.events ++ e ∷ [])) + 1)
       full-of shows j old new l event DiskFault st h e = absurd (cc e)
       full-of shows j old new l event Full st h e = (h.0, h.1, omega (arith, h.2, ends-at shows j old l h.0 st, st.same_limit))
       full-of shows j old new l event NoMemory st h e = absurd (cc e)
 
       -- what is left is within the limit
-      within-of : (shows : Site → Type 0) (j : Kept) (old new : D) (l : KeptSite) (event : Option Event) → Stands d o shows j old l → Tries d event j old new → IsTrue (d.tells o.disk) → (c : List ℕ) → d.may_leave new c →
+      within-of : (shows : Site → Type 0) (j : Kept) (old new : D) (l : KeptSite) (event : Option Event) → Stands d o shows j old l →
+          Tries d event j old new → IsTrue (d.tells o.disk) → (c : List ℕ) → d.may_leave new c →
           IsWithin o.role o.text o.limit o.first (events_of c)
       within-of shows j old new l event st (inl same) told c left =
           subst (IsWithin o.role o.text o.limit o.first) (sym (st.durable told c (subst (λ (x : D). d.may_leave x c) same left)).events_are) st.within
@@ -263,7 +275,8 @@ module _ {D : Type 0} (d : Ghosts D) (o : Origin D) where
             left = λ told. record {
               moments = moments-of shows j old new l event st both.0 told;
               first_sync = synced-of shows j old new l event st both.0 told;
-              images = λ c left. between-one o.role o.text l.events (with_event l.events event) l.events event c (begins-same l.events l.events refl) (begins-same (with_event l.events event) (with_event l.events event) refl)
+              images = λ c left. between-one o.role o.text l.events (with_event l.events event) l.events event c (begins-same l.events l.events refl)
+                  (begins-same (with_event l.events event) (with_event l.events event) refl)
                   (images-of shows j old new l event st both.0 told c left);
               reads = in-hand o.role o.text l.events event (d.seen new)
                   (images-of shows j old new l event st both.0 told (d.seen new) (reads new (subst IsTrue (sym (tells-of shows j old new l event st both.0)) told)));

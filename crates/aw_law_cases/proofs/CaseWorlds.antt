@@ -36,7 +36,8 @@ module _ (C : Cases) where
   marks-new [] = refl
   marks-new (m ∷ ms) = ap (λ ds. cond (of_message C m) (false ∷ ds) ds) (marks-new ms) ∙ by (of_message C m)
     where
-      by : (b : Bool) → cond b (false ∷ map (λ m. false) (filter (of_message C) ms)) (map (λ m. false) (filter (of_message C) ms)) ≡ map (λ m. false) (cond b (m ∷ filter (of_message C) ms) (filter (of_message C) ms))
+      by : (b : Bool) → cond b (false ∷ map (λ m. false) (filter (of_message C) ms)) (map (λ m. false) (filter (of_message C) ms)) ≡ map (λ m. false)
+          (cond b (m ∷ filter (of_message C) ms) (filter (of_message C) ms))
       by true = refl
       by false = refl
 
@@ -44,7 +45,8 @@ module _ (C : Cases) where
   cond-append true x xs ys = refl
   cond-append false x xs ys = refl
 
-  marks-more : (ms : List Message) (ds : List Bool) (ns : List Message) → length ds ≡ length ms → keep_marks C (ms ++ ns) (ds ++ map (λ m. false) ns) ≡ keep_marks C ms ds ++ map (λ m. false) (filter (of_message C) ns)
+  marks-more : (ms : List Message) (ds : List Bool) (ns : List Message) → length ds ≡ length ms → keep_marks C (ms ++ ns)
+      (ds ++ map (λ m. false) ns) ≡ keep_marks C ms ds ++ map (λ m. false) (filter (of_message C) ns)
   marks-more [] [] ns e = marks-new ns
   marks-more [] (d ∷ ds) ns e = absurd (omega arith)
   marks-more (m ∷ ms) [] ns e = absurd (omega arith)
@@ -55,7 +57,8 @@ module _ (C : Cases) where
   set-under true d v xs k = refl
   set-under false d v xs k = refl
 
-  marks-set : (ms : List Message) (ds : List Bool) (k : ℕ) (m : Message) → slice_get ms k ≡ Some m → of_message C m ≡ true → length ds ≡ length ms → keep_marks C ms (slice_set ds k true) ≡ slice_set (keep_marks C ms ds) (kept_before C k ms) true
+  marks-set : (ms : List Message) (ds : List Bool) (k : ℕ) (m : Message) → slice_get ms k ≡ Some m → of_message C m ≡ true → length ds ≡ length ms →
+      keep_marks C ms (slice_set ds k true) ≡ slice_set (keep_marks C ms ds) (kept_before C k ms) true
   marks-set [] ds k m e i l = absurd cc
   marks-set (n ∷ ms) [] k m e i l = absurd (omega arith)
   marks-set (n ∷ ms) (d ∷ ds) zero m e i l =
@@ -113,7 +116,8 @@ module _ (C : Cases) where
   unseen-with g w a x l u =
       kept-with w a x l ∙ (ap (with_site (keep_world C w) a) (u ∙ ap silently (sym (kept-at w a))) ∙ silent-with (keep_world C w) a)
 
-  kept-mark : (w : World) (k : ℕ) (m : Message) → slice_get w.messages k ≡ Some m → of_message C m ≡ true → length w.delivered ≡ length w.messages → keep_world C (mark_delivered k w) ≡ mark_delivered (kept_before C k w.messages) (keep_world C w)
+  kept-mark : (w : World) (k : ℕ) (m : Message) → slice_get w.messages k ≡ Some m → of_message C m ≡ true → length w.delivered ≡ length w.messages →
+      keep_world C (mark_delivered k w) ≡ mark_delivered (kept_before C k w.messages) (keep_world C w)
   kept-mark w k m e i l = ap (λ ds. record (keep_world C w) { delivered = ds }) (marks-set w.messages w.delivered k m e i l)
 
   other-mark : (w : World) (k : ℕ) (m : Message) → slice_get w.messages k ≡ Some m → of_message C m ≡ false → keep_world C (mark_delivered k w) ≡ keep_world C w
@@ -137,10 +141,12 @@ module _ (C : Cases) where
 
   module _ (g : Grammar) where
     -- choices
-    chosen-kept : (w : World) → AllParted w → (a : ℕ) (c : Choice) → of_choice C c ≡ true → (z : Chosen) → keep_world C (chosen_at w a c z).world ≡ (chosen_at (keep_world C w) a c (keep_chosen C g z)).world
+    chosen-kept : (w : World) → AllParted w → (a : ℕ) (c : Choice) → of_choice C c ≡ true → (z : Chosen) →
+        keep_world C (chosen_at w a c z).world ≡ (chosen_at (keep_world C w) a c (keep_chosen C g z)).world
     chosen-kept w A a c i (No q) = refl
     chosen-kept w A a c i (Did x) =
-        let t : filter (of_choice C) (w.taken ++ c ∷ []) ≡ filter (of_choice C) w.taken ++ c ∷ [] = filter-append (of_choice C) w.taken (c ∷ []) ∙ ap (λ b. filter (of_choice C) w.taken ++ cond b (c ∷ []) []) i in
+        let t : filter (of_choice C) (w.taken ++ c ∷ []) ≡ filter (of_choice C) w.taken ++ c ∷ [] = filter-append (of_choice C) w.taken (c ∷ [])
+        ∙ ap (λ b. filter (of_choice C) w.taken ++ cond b (c ∷ []) []) i in
         let v = kept-with w a x A.marks in
         λ j. record (v j) { taken = t j }
 
@@ -159,7 +165,9 @@ module _ (C : Cases) where
         record { sites = B.sites; messages = B.messages; marks = B.marks }
 
     -- deliveries
-    received-kept : (w : World) → AllParted w → (k : ℕ) (m : Message) → slice_get w.messages k ≡ Some m → of_message C m ≡ true → (z : Received Reaction) → keep_world C (received_at w k m.to z).world ≡ (received_at (keep_world C w) (kept_before C k w.messages) m.to (keep_received C z)).world
+    received-kept : (w : World) → AllParted w → (k : ℕ) (m : Message) → slice_get w.messages k ≡ Some m → of_message C m ≡ true →
+        (z : Received Reaction) → keep_world C (received_at w k m.to z).world ≡ (received_at (keep_world C w) (kept_before C k w.messages) m.to
+        (keep_received C z)).world
     received-kept w A k m e i (New x) =
         let v = with_site w m.to x in
         kept-mark v k m (get-left w.messages x.sent k m e) i (length-both w.messages w.delivered (λ m. false) x.sent A.marks)
@@ -169,7 +177,8 @@ module _ (C : Cases) where
     received-kept w A k m e i NotMine = kept-mark w k m e i A.marks
     received-kept w A k m e i BadName = kept-mark w k m e i A.marks
 
-    received-unseen : (w : World) → AllParted w → (k : ℕ) (m : Message) → slice_get w.messages k ≡ Some m → of_message C m ≡ false → (z : Received Reaction) → receive g (site_at w m.to) m ≡ z → keep_world C (received_at w k m.to z).world ≡ keep_world C w
+    received-unseen : (w : World) → AllParted w → (k : ℕ) (m : Message) → slice_get w.messages k ≡ Some m → of_message C m ≡ false →
+        (z : Received Reaction) → receive g (site_at w m.to) m ≡ z → keep_world C (received_at w k m.to z).world ≡ keep_world C w
     received-unseen w A k m e i (New x) q =
         other-mark (with_site w m.to x) k m (get-left w.messages x.sent k m e) i
         ∙ unseen-with g w m.to x A.marks (receive-unseen C g (site_at w m.to) (A.sites m.to) m (A.messages m (member_got w.messages k m e)) i x q)
@@ -178,7 +187,8 @@ module _ (C : Cases) where
     received-unseen w A k m e i NotMine q = other-mark w k m e i
     received-unseen w A k m e i BadName q = other-mark w k m e i
 
-    received-parted : (w : World) → AllParted w → (k : ℕ) (m : Message) → slice_get w.messages k ≡ Some m → (z : Received Reaction) → receive g (site_at w m.to) m ≡ z → AllParted (received_at w k m.to z).world
+    received-parted : (w : World) → AllParted w → (k : ℕ) (m : Message) → slice_get w.messages k ≡ Some m → (z : Received Reaction) →
+        receive g (site_at w m.to) m ≡ z → AllParted (received_at w k m.to z).world
     received-parted w A k m e (New x) q =
         let (P, f) = receive-parted C g (site_at w m.to) (A.sites m.to) m (A.messages m (member_got w.messages k m e)) x q in
         parted-mark (with_site w m.to x) k (parted-with w m.to x A P f)
@@ -201,7 +211,9 @@ module _ (C : Cases) where
         let v = keep_world C w in
         let j = kept_before C k w.messages in
         received-kept w A k m e i (receive g (site_at w m.to) m)
-        ∙ (ap (λ z. (received_at v j m.to z).world) (sym (receive-kept C g (site_at w m.to) (A.sites m.to) m (A.messages m (member_got w.messages k m e)) i) ∙ ap (λ s. receive g s m) (sym (kept-at w m.to)))
+        ∙ (ap (λ z. (received_at v j m.to z).world)
+        (sym (receive-kept C g (site_at w m.to) (A.sites m.to) m (A.messages m (member_got w.messages k m e)) i)
+        ∙ ap (λ s. receive g s m) (sym (kept-at w m.to)))
         ∙ sym (ap (λ o. (deliver_on g v j o).world) (get-kept w.messages k m e i)))
     message-step w A k m e false i = received-unseen w A k m e i (receive g (site_at w m.to) m) refl
 
@@ -240,7 +252,8 @@ module _ (C : Cases) where
     received-reply w v j k a NotMine = refl
     received-reply w v j k a BadName = refl
 
-    choose-reply : (w : World) → AllParted w → (c : Choice) (b : Bool) → of_choice C c ≡ b → map (λ d. (step g w (Chooses c)).reply) (cond b (Chooses c ∷ []) []) ≡ world_replies g (keep_world C w) (cond b (Chooses c ∷ []) [])
+    choose-reply : (w : World) → AllParted w → (c : Choice) (b : Bool) → of_choice C c ≡ b → map (λ d. (step g w (Chooses c)).reply)
+        (cond b (Chooses c ∷ []) []) ≡ world_replies g (keep_world C w) (cond b (Chooses c ∷ []) [])
     choose-reply w A c true i =
         let a = home g (node_of c) in
         ap (λ x. x ∷ []) (chosen-reply w (keep_world C w) a c (choose g (site_at w a) c)
@@ -248,17 +261,21 @@ module _ (C : Cases) where
     choose-reply w A c false i = refl
 
     message-reply : (w : World) → AllParted w → (k : ℕ) (m : Message) → slice_get w.messages k ≡ Some m → (b : Bool) → of_message C m ≡ b
-        → map (λ (d : Move). (step g w (Delivers k)).reply) (cond b (Delivers (kept_before C k w.messages) ∷ []) []) ≡ world_replies g (keep_world C w) (cond b (Delivers (kept_before C k w.messages) ∷ []) [])
+        → map (λ (d : Move). (step g w (Delivers k)).reply) (cond b (Delivers (kept_before C k w.messages) ∷ []) []) ≡ world_replies g
+        (keep_world C w) (cond b (Delivers (kept_before C k w.messages) ∷ []) [])
     message-reply w A k m e true i =
         let v = keep_world C w in
         let j = kept_before C k w.messages in
         ap (λ x. x ∷ []) (ap (λ o. (deliver_on g w k o).reply) e
         ∙ (received-reply w v k j m.to (receive g (site_at w m.to) m)
-        ∙ (ap (λ z. (received_at v j m.to z).reply) (sym (receive-kept C g (site_at w m.to) (A.sites m.to) m (A.messages m (member_got w.messages k m e)) i) ∙ ap (λ s. receive g s m) (sym (kept-at w m.to)))
+        ∙ (ap (λ z. (received_at v j m.to z).reply)
+        (sym (receive-kept C g (site_at w m.to) (A.sites m.to) m (A.messages m (member_got w.messages k m e)) i)
+        ∙ ap (λ s. receive g s m) (sym (kept-at w m.to)))
         ∙ sym (ap (λ o. (deliver_on g v j o).reply) (get-kept w.messages k m e i)))))
     message-reply w A k m e false i = refl
 
-    deliver-reply : (w : World) → AllParted w → (k : ℕ) (o : Option Message) → slice_get w.messages k ≡ o → map (λ d. (step g w (Delivers k)).reply) (keep_delivery C w k o) ≡ world_replies g (keep_world C w) (keep_delivery C w k o)
+    deliver-reply : (w : World) → AllParted w → (k : ℕ) (o : Option Message) → slice_get w.messages k ≡ o → map (λ d. (step g w (Delivers k)).reply)
+        (keep_delivery C w k o) ≡ world_replies g (keep_world C w) (keep_delivery C w k o)
     deliver-reply w A k None e = refl
     deliver-reply w A k (Some m) e = message-reply w A k m e (of_message C m) refl
 

@@ -24,7 +24,8 @@ use Rattle.aw_law_nodes.proofs.ListParts.{filter-append, filter-all, filter-none
 use Rattle.aw_law_cases.specs.Cases.{Cases, of_node, of_equation, of_held, of_choice, of_message, keep_site, AllOn, AreParted, AreOn, IsParted, IsOneSided}
 use Rattle.aw_law_cases.proofs.Keeping.{kept, guards-kept, bound-on, held-kept}
 use Rattle.aw_law_cases.proofs.Making.{CallsOn, both-refs, made-on}
-use Rattle.aw_law_cases.proofs.Sending.{keep_reaction, all-kept, all-other, asking-kept, asking-other, calls-kept, calls-on, insert-kept, insert-other, mark-kept, mark-other, marked-node, marked-refs, tells-kept, tells-on, up-all-inserted, up-inserted, up-marked}
+use Rattle.aw_law_cases.proofs.Sending.{keep_reaction, all-kept, all-other, asking-kept, asking-other, calls-kept, calls-on, insert-kept, insert-other}
+use Rattle.aw_law_cases.proofs.Sending.{mark-kept, mark-other, marked-node, marked-refs, tells-kept, tells-on, up-all-inserted, up-inserted, up-marked}
 
 module _ (C : Cases) (g : Grammar) where
   pub mentions-on : (b : Bool) (es : List Equation) → AreOn C b es → AllOn C b (all_mentions es)
@@ -42,13 +43,15 @@ module _ (C : Cases) (g : Grammar) where
   rule-by : (k : Map) → AreParted C k → (n : Node) (args : List Ground) (h : Held) → AllOn C true h.inherited → (o : Option Rule) → by_rule o (kept C k) n args h ≡ by_rule o k n args h
   rule-by k p n args h on None = refl
   rule-by k p n args h on (Some rule) =
-      ap (λ m. cond (nat_eq rule.sort h.sort) (cond (nat_eq (length args) rule.params) (after_guard n rule m) (Refused Arguments)) (Refused NotItsRule)) (guards-kept C k p 1 rule.patterns h.inherited on)
+      ap (λ m. cond (nat_eq rule.sort h.sort) (cond (nat_eq (length args) rule.params) (after_guard n rule m) (Refused Arguments))
+      (Refused NotItsRule)) (guards-kept C k p 1 rule.patterns h.inherited on)
 
   state-by : (k : Map) → AreParted C k → (n : Node) (r : ℕ) (args : List Ground) (h : Held) → AllOn C true h.inherited → (s : State) → by_state s g (kept C k) n r args h ≡ by_state s g k n r args h
   state-by k p n r args h on (Done q a) = refl
   state-by k p n r args h on Pending = rule-by k p n args h on (slice_get g.rules r)
 
-  held-by : (s : Site) → IsParted C s → (n : Node) (r : ℕ) (args : List Ground) → of_node C n ≡ true → (o : Option Held) → held_of n s.held ≡ o → by_held o g (kept C s.equations) n r args ≡ by_held o g s.equations n r args
+  held-by : (s : Site) → IsParted C s → (n : Node) (r : ℕ) (args : List Ground) → of_node C n ≡ true → (o : Option Held) → held_of n s.held ≡ o →
+      by_held o g (kept C s.equations) n r args ≡ by_held o g s.equations n r args
   held-by s P n r args i None e = refl
   held-by s P n r args i (Some h) e =
       let (m, p) = held_of-found n s.held h e in
@@ -131,7 +134,9 @@ module _ (C : Cases) (g : Grammar) where
         let held = all-other C own (map (mark n (Done r args)) s.held) own_on ∙ mark-other C n (Done r args) s.held here in
         let choices = no-choice s.choices c here in
         let equations : filter (of_equation C) (s.equations ++ m.equations) ≡ filter (of_equation C) s.equations =
-        filter-append (of_equation C) s.equations m.equations ∙ (ap (λ xs. filter (of_equation C) s.equations ++ xs) (filter-none (of_equation C) m.equations (λ e i. (made e i).0)) ∙ append-nil (filter (of_equation C) s.equations)) in
+        filter-append (of_equation C) s.equations m.equations
+        ∙ (ap (λ xs. filter (of_equation C) s.equations ++ xs) (filter-none (of_equation C) m.equations (λ e i. (made e i).0))
+        ∙ append-nil (filter (of_equation C) s.equations)) in
         let same : keep_site C after ≡ keep_site C s = λ i. record (keep_site C s) { held = held i; choices = choices i; equations = equations i } in
         let first = calls_out g after m.calls ++ tells g after m.equations in
         asking-other C g after first asked (filter-none (of_message C) first (λ x i. (sent-on false here calls made x i).0)) (asked-on false here calls made) ∙ ap silently same
@@ -160,7 +165,8 @@ module _ (C : Cases) (g : Grammar) where
   choose-by s P (Start st k) i (Takes rule bound) e = refl
   choose-by s P (Develop n r args) i (Takes rule bound) e =
       let (calls, eqs) = made-on C n r rule args bound (bound-side s P n r args rule bound e) in
-      ap Did (develop-kept s P n r args (made n r rule args bound) i (subst (λ b. CallsOn C b (made n r rule args bound).calls) i calls) (subst (λ b. AreOn C b (made n r rule args bound).equations) i eqs))
+      ap Did (develop-kept s P n r args (made n r rule args bound) i (subst (λ b. CallsOn C b (made n r rule args bound).calls) i calls)
+      (subst (λ b. AreOn C b (made n r rule args bound).equations) i eqs))
 
   pub choose-kept : (s : Site) → IsParted C s → (c : Choice) → of_choice C c ≡ true → choose g (keep_site C s) c ≡ keep_chosen (choose g s c)
   choose-kept s P c i = ap (choose_on g (keep_site C s) c) (outcome-kept s P c i) ∙ choose-by s P c i (outcome g s c) refl
@@ -177,7 +183,8 @@ module _ (C : Cases) (g : Grammar) where
   unseen-by s P (Develop n r args) i (Takes rule bound) e x q =
       let (calls, eqs) = made-on C n r rule args bound (bound-side s P n r args rule bound e) in
       let p : develop_site g s (Develop n r args) n r args (made n r rule args bound) ≡ x = cc in
-      subst (IsUnseen s) p (develop-other s P n r args (made n r rule args bound) i (subst (λ b. CallsOn C b (made n r rule args bound).calls) i calls) (subst (λ b. AreOn C b (made n r rule args bound).equations) i eqs))
+      subst (IsUnseen s) p (develop-other s P n r args (made n r rule args bound) i (subst (λ b. CallsOn C b (made n r rule args bound).calls) i
+      calls) (subst (λ b. AreOn C b (made n r rule args bound).equations) i eqs))
 
   pub choose-unseen : (s : Site) → IsParted C s → (c : Choice) → of_choice C c ≡ false → (x : Reaction) → choose g s c ≡ Did x → IsUnseen s x
   choose-unseen s P c i x e = unseen-by s P c i (outcome g s c) refl x e
@@ -220,7 +227,8 @@ module _ (C : Cases) (g : Grammar) where
       let p : develop_site g s (Develop n r args) n r args m ≡ x = cc in
       let v = built s (Develop n r args) n r args m in
       subst (λ (x : Reaction). (m : Message) → Member m x.sent → IsOneSided C m.kind) p
-      (asking-sided v (calls_out g v m.calls ++ tells g v m.equations) (all_mentions m.equations ++ all_inherited (calls_in g s.role m.calls)) (λ y i. (sent-on s P n r args m (of_node C n) refl calls eqs y i).1))
+      (asking-sided v (calls_out g v m.calls ++ tells g v m.equations) (all_mentions m.equations ++ all_inherited (calls_in g s.role m.calls))
+      (λ y i. (sent-on s P n r args m (of_node C n) refl calls eqs y i).1))
 
   pub choose-sided : (s : Site) → IsParted C s → (c : Choice) → (x : Reaction) → choose g s c ≡ Did x → (m : Message) → Member m x.sent → IsOneSided C m.kind
   choose-sided s P c x e = sided-by s P c (outcome g s c) refl x e

@@ -22,7 +22,8 @@ module _ (C : Cases) where
   kept k = filter (of_equation C) k
 
   -- equations
-  find-at : (r : Ref) (e : Equation) (k l : Map) (b d : Bool) → of_equation C e ≡ b → ref_eq r e.left ≡ d → of_ref C r ≡ true → find l r ≡ find k r → find (cond b (e ∷ l) l) r ≡ cond d (Some e.body) (find k r)
+  find-at : (r : Ref) (e : Equation) (k l : Map) (b d : Bool) → of_equation C e ≡ b → ref_eq r e.left ≡ d → of_ref C r ≡ true → find l r ≡ find k r →
+      find (cond b (e ∷ l) l) r ≡ cond d (Some e.body) (find k r)
   find-at r e k l true d p q i h = λ j. cond (q j) (Some e.body) (h j)
   find-at r e k l false true p q i h = let z : of_ref C e.left ≡ true = subst (λ r. of_ref C r ≡ true) (ref_eq-true r e.left q) i in let y : false ≡ true = sym p ∙ z in absurd cc
   find-at r e k l false false p q i h = h
@@ -60,7 +61,8 @@ module _ (C : Cases) where
   EndsOn b (Missing s) = of_ref C s ≡ b
   EndsOn b Round = Unit {0}
 
-  ends-by : (k : Map) → AreParted C k → (go : Ref → Chased) (r : Ref) (b : Bool) → of_ref C r ≡ b → ((s : Ref) → of_ref C s ≡ b → EndsOn b (go s)) → (o : Option Body) → find k r ≡ o → EndsOn b (chase_on go r o)
+  ends-by : (k : Map) → AreParted C k → (go : Ref → Chased) (r : Ref) (b : Bool) → of_ref C r ≡ b → ((s : Ref) → of_ref C s ≡ b → EndsOn b (go s)) →
+      (o : Option Body) → find k r ≡ o → EndsOn b (chase_on go r o)
   ends-by k p go r b i f None e = i
   ends-by k p go r b i f (Some (Is h rs)) e = λ u m. body-on k p r (Is h rs) e u m ∙ i
   ends-by k p go r b i f (Some (Same s)) e = f s (body-on k p r (Same s) e s (inl refl) ∙ i)
@@ -88,7 +90,8 @@ module _ (C : Cases) where
 
   -- guards
   module _ (k : Map) (p : AreParted C k) where
-    end-same : (z : Chased) → EndsOn true z → (go to : List Ref → Matched Ref Ref) → ((rs : List Ref) → AllOn C true rs → go rs ≡ to rs) → (h : Head) (n : ℕ) (r : Ref) → guard_end z go h n r ≡ guard_end z to h n r
+    end-same : (z : Chased) → EndsOn true z → (go to : List Ref → Matched Ref Ref) → ((rs : List Ref) → AllOn C true rs → go rs ≡ to rs) →
+        (h : Head) (n : ℕ) (r : Ref) → guard_end z go h n r ≡ guard_end z to h n r
     end-same (Found j rs) on go to f h n r = ap (λ m. cond (head_eq h j && nat_eq n (length rs)) m (Differs [])) (f rs on)
     end-same (Missing s) on go to f h n r = refl
     end-same Round on go to f h n r = refl
@@ -161,7 +164,8 @@ module _ (C : Cases) where
     bound-on n ts rs xs on e = subst (MatchOn b) e (guards-match n ts rs on)
 
   -- held nodes
-  held-at : (n : Node) (h : Held) (hs ls : List Held) (b d : Bool) → of_held C h ≡ b → node_eq n h.node ≡ d → of_node C n ≡ true → held_of n ls ≡ held_of n hs → held_of n (cond b (h ∷ ls) ls) ≡ cond d (Some h) (held_of n hs)
+  held-at : (n : Node) (h : Held) (hs ls : List Held) (b d : Bool) → of_held C h ≡ b → node_eq n h.node ≡ d → of_node C n ≡ true →
+      held_of n ls ≡ held_of n hs → held_of n (cond b (h ∷ ls) ls) ≡ cond d (Some h) (held_of n hs)
   held-at n h hs ls true d p q i e = λ j. cond (q j) (Some h) (e j)
   held-at n h hs ls false true p q i e = let z : of_node C h.node ≡ true = subst (λ n. of_node C n ≡ true) (node_is n h.node q) i in let y : false ≡ true = sym p ∙ z in absurd cc
   held-at n h hs ls false false p q i e = e

@@ -78,7 +78,8 @@ module _ (C : Cases) where
 
     results-on : (k j : ℕ) (ts : List Term) → AreOn C (of_node C n) (lay_results n f k j ts)
     results-on k j [] = λ e m. never m
-    results-on k j (t ∷ ts) = both-on (of_node C n) (lay_result n f k j t).equations (lay_results n f (lay_result n f k j t).next (suc j) ts) (result-on k j t) (results-on (lay_result n f k j t).next (suc j) ts)
+    results-on k j (t ∷ ts) = both-on (of_node C n) (lay_result n f k j t).equations (lay_results n f (lay_result n f k j t).next (suc j) ts)
+        (result-on k j t) (results-on (lay_result n f k j t).next (suc j) ts)
 
   kids-on : (n : Node) (r k : ℕ) (cs : List Child) → AllOn C (of_node C n) (child_refs n r k cs)
   kids-on n r k [] = λ u m. never m
@@ -86,7 +87,8 @@ module _ (C : Cases) where
       both-refs (of_node C n) (map (result (below n r k)) (upto 1 c.outs)) (child_refs n r (suc k) cs)
       (λ u m. let (j, i, p) = member_unmap (result (below n r k)) u (upto 1 c.outs) m in ap (of_ref C) p) (kids-on n r (suc k) cs)
 
-  pub made-on : (n : Node) (r : ℕ) (rule : Rule) (args : List Ground) (bound : List Ref) → AllOn C (of_node C n) bound → CallsOn (of_node C n) (made n r rule args bound).calls × AreOn C (of_node C n) (made n r rule args bound).equations
+  pub made-on : (n : Node) (r : ℕ) (rule : Rule) (args : List Ground) (bound : List Ref) → AllOn C (of_node C n) bound → CallsOn (of_node C n)
+      (made n r rule args bound).calls × AreOn C (of_node C n) (made n r rule args bound).equations
   made-on n r rule args bound old =
       let none : Never → Ref = λ x. elim x [ ] in
       let a = lay_list n none 1 args in
@@ -108,14 +110,16 @@ module _ (C : Cases) where
     GivenOn b None = Unit {0}
     GivenOn b (Some d) = (of_equation C d.equation ≡ b) × AllOn C b (mentions d.equation.body) × AllOn C b d.rest
 
-    given-by : (b x : Bool) (r : Ref) (o : Option Body) (rs : List Ref) (later : Option Given) → find s.equations r ≡ o → of_ref C r ≡ b → AllOn C b rs → GivenOn b later → GivenOn b (given_on x r o rs later)
+    given-by : (b x : Bool) (r : Ref) (o : Option Body) (rs : List Ref) (later : Option Given) → find s.equations r ≡ o → of_ref C r ≡ b →
+        AllOn C b rs → GivenOn b later → GivenOn b (given_on x r o rs later)
     given-by b true r (Some body) rs later e i on l = (i, λ u m. body-on C s.equations p r body e u m ∙ i, on)
     given-by b true r None rs later e i on l = l
     given-by b false r o rs later e i on l = l
 
     next-on : (b : Bool) (seen rs : List Ref) → AllOn C b rs → GivenOn b (next_given g s seen rs)
     next-on b seen [] on = tt
-    next-on b seen (r ∷ rs) on = given-by b (may_give g s seen r) r (find s.equations r) rs (next_given g s seen rs) refl (on r (inl refl)) (λ u m. on u (inr m)) (next-on b seen rs (λ u m. on u (inr m)))
+    next-on b seen (r ∷ rs) on = given-by b (may_give g s seen r) r (find s.equations r) rs (next_given g s seen rs) refl (on r (inl refl))
+        (λ u m. on u (inr m)) (next-on b seen rs (λ u m. on u (inr m)))
 
     next-kept : (seen rs : List Ref) → AllOn C true rs → next_given g (keep_site C s) seen rs ≡ next_given g s seen rs
     next-kept seen [] on = refl
@@ -131,19 +135,22 @@ module _ (C : Cases) where
     walk-by-on : (b : Bool) (n : ℕ) (seen : List Ref) (o : Option Given) → GivenOn b o → ((seen rs : List Ref) → AllOn C b rs → AreOn C b (walk n g s seen rs)) → AreOn C b (walk_by n s seen o)
     walk-by-on b n seen None on f = λ e m. never m
     walk-by-on b n seen (Some d) on f =
-        one-on b d.equation (walk n g s (d.equation.left ∷ seen) (mentions d.equation.body ++ d.rest)) on.0 on.1 (f (d.equation.left ∷ seen) (mentions d.equation.body ++ d.rest) (both-refs b (mentions d.equation.body) d.rest on.1 on.2))
+        one-on b d.equation (walk n g s (d.equation.left ∷ seen) (mentions d.equation.body ++ d.rest)) on.0 on.1
+        (f (d.equation.left ∷ seen) (mentions d.equation.body ++ d.rest) (both-refs b (mentions d.equation.body) d.rest on.1 on.2))
 
     walk-on : (b : Bool) (n : ℕ) (seen rs : List Ref) → AllOn C b rs → AreOn C b (walk n g s seen rs)
     walk-on b zero seen rs on = λ e m. never m
     walk-on b (suc n) seen rs on = walk-by-on b n seen (next_given g s seen rs) (next-on b seen rs on) (λ seen rs on. walk-on b n seen rs on)
 
-    walk-by-kept : (n : ℕ) (seen : List Ref) (o : Option Given) → GivenOn true o → ((seen rs : List Ref) → AllOn C true rs → walk n g (keep_site C s) seen rs ≡ walk n g s seen rs) → walk_by n (keep_site C s) seen o ≡ walk_by n s seen o
+    walk-by-kept : (n : ℕ) (seen : List Ref) (o : Option Given) → GivenOn true o →
+        ((seen rs : List Ref) → AllOn C true rs → walk n g (keep_site C s) seen rs ≡ walk n g s seen rs) → walk_by n (keep_site C s) seen o ≡ walk_by n s seen o
     walk-by-kept n seen None on f = refl
     walk-by-kept n seen (Some d) on f = ap (◌∷◌ d.equation) (f (d.equation.left ∷ seen) (mentions d.equation.body ++ d.rest) (both-refs true (mentions d.equation.body) d.rest on.1 on.2))
 
     walk-kept : (n : ℕ) (seen rs : List Ref) → AllOn C true rs → walk n g (keep_site C s) seen rs ≡ walk n g s seen rs
     walk-kept zero seen rs on = refl
-    walk-kept (suc n) seen rs on = ap (walk_by n (keep_site C s) seen) (next-kept seen rs on) ∙ walk-by-kept n seen (next_given g s seen rs) (next-on true seen rs on) (λ seen rs on. walk-kept n seen rs on)
+    walk-kept (suc n) seen rs on = ap (walk_by n (keep_site C s) seen) (next-kept seen rs on) ∙ walk-by-kept n seen (next_given g s seen rs)
+        (next-on true seen rs on) (λ seen rs on. walk-kept n seen rs on)
 
     pub load-kept : (seen rs : List Ref) → AllOn C true rs → load_of g (keep_site C s) seen rs ≡ load_of g s seen rs
     load-kept seen rs on = ap (λ xs. cond s.loads xs []) (walk-kept 64 seen rs on)

@@ -28,7 +28,8 @@ use Rattle.aw_law_worlds.proofs.Learning.{add-member}
 use Rattle.aw_law_worlds.proofs.Growing.{new-of, cond-new}
 use Rattle.aw_law_nodes.proofs.KeptNodes.{events-append}
 use Rattle.aw_law_nodes.proofs.ListParts.{filter-append}
-use Rattle.aw_law_cases.specs.Cases.{Cases, of_node, of_ref, of_equation, of_held, of_choice, of_kind, of_message, of_event, keep_site, AllOn, AreParted, AreOn, IsParted, IsOneSided, IsOneSidedEvent, AreInOrder, SiteKeepsCases}
+use Rattle.aw_law_cases.specs.Cases.{Cases, of_node, of_ref, of_equation, of_held, of_choice, of_kind, of_message, of_event, keep_site, AllOn}
+use Rattle.aw_law_cases.specs.Cases.{AreParted, AreOn, IsParted, IsOneSided, IsOneSidedEvent, AreInOrder, SiteKeepsCases}
 use Rattle.aw_law_cases.proofs.Keeping.{kept, find-kept, body-on, held-kept}
 use Rattle.aw_law_cases.proofs.Making.{both-refs}
 use Rattle.aw_law_cases.proofs.Sending.{keep_reaction, asking-kept, asking-other, insert-kept, insert-other, tell-kept, tell-on, up-inserted, with-true}
@@ -104,7 +105,8 @@ module _ (C : Cases) where
         let equations = sym (add-kept s.equations load on) in
         let v : Site = record s { held = add_held (held_of c.node s.held) c s.held; equations = add_all s.equations load } in
         ap (λ w. asking g w [] (c.inherited ++ all_mentions load)) (λ j. record (keep_site C s) { held = held j; equations = equations j })
-        ∙ asking-kept C g v [] [] (c.inherited ++ all_mentions load) refl (both-refs C true c.inherited (all_mentions load) (subst (λ b. AllOn C b c.inherited) i one.0) (mentions-on C g true load load_on))
+        ∙ asking-kept C g v [] [] (c.inherited ++ all_mentions load) refl (both-refs C true c.inherited (all_mentions load)
+        (subst (λ b. AllOn C b c.inherited) i one.0) (mentions-on C g true load load_on))
     react-kept (Asks r from) one i =
         let watches : (react g (keep_site C s) (Asks r from)).site.watches ≡ (keep_site C (react g s (Asks r from)).site).watches =
         fun_ext (λ x. fun_ext (λ role. watch-kept (ref_eq r x && nat_eq from role) (s.watches x role) (of_ref C x) (λ e. sym (same-case r x from role e) ∙ i))) in
@@ -132,13 +134,15 @@ module _ (C : Cases) where
         let held = add-held-other c (held_of c.node s.held) i in
         let equations = add-other s.equations load on in
         let v : Site = record s { held = add_held (held_of c.node s.held) c s.held; equations = add_all s.equations load } in
-        asking-other C g v [] (c.inherited ++ all_mentions load) refl (both-refs C false c.inherited (all_mentions load) (subst (λ b. AllOn C b c.inherited) i one.0) (mentions-on C g false load load_on))
+        asking-other C g v [] (c.inherited ++ all_mentions load) refl (both-refs C false c.inherited (all_mentions load)
+        (subst (λ b. AllOn C b c.inherited) i one.0) (mentions-on C g false load load_on))
         ∙ (λ j. silently (record (keep_site C s) { held = held j; equations = equations j }))
     react-other (Asks r from) one i =
         let watches : (keep_site C (react g s (Asks r from)).site).watches ≡ (keep_site C s).watches =
         fun_ext (λ x. fun_ext (λ role. watch-other (ref_eq r x && nat_eq from role) (s.watches x role) (of_ref C x) (λ e. sym (same-case r x from role e) ∙ i))) in
         let sent = told (find s.equations r) i in
-        let outbox = filter-append (of_message C) s.outbox (tell_back g s (find s.equations r) r from) ∙ (ap (λ xs. filter (of_message C) s.outbox ++ xs) sent ∙ append-nil (filter (of_message C) s.outbox)) in
+        let outbox = filter-append (of_message C) s.outbox (tell_back g s (find s.equations r) r from)
+        ∙ (ap (λ xs. filter (of_message C) s.outbox ++ xs) sent ∙ append-nil (filter (of_message C) s.outbox)) in
         λ j. record { site = record (keep_site C s) { watches = watches j; outbox = outbox j }; sent = sent j }
       where
         told : (o : Option Body) → of_ref C r ≡ false → filter (of_message C) (tell_back g s o r from) ≡ []
@@ -237,7 +241,8 @@ module _ (C : Cases) where
     pub receive-unseen : (s : Site) → IsParted C s → (m : Message) → IsOneSided C m.kind → of_message C m ≡ false → (x : Reaction) → receive g s m ≡ New x → IsUnseen C g s x
     receive-unseen s P m one i x e = subst (IsUnseen C g s) (reaction-is s m x e) (react-other g s P m.kind one i)
 
-    pub receive-parted : (s : Site) → IsParted C s → (m : Message) → IsOneSided C m.kind → (x : Reaction) → receive g s m ≡ New x → IsParted C x.site × ((n : Message) → Member n x.sent → IsOneSided C n.kind)
+    pub receive-parted : (s : Site) → IsParted C s → (m : Message) → IsOneSided C m.kind → (x : Reaction) → receive g s m ≡ New x → IsParted C x.site
+        × ((n : Message) → Member n x.sent → IsOneSided C n.kind)
     receive-parted s P m one x e =
         subst (λ (x : Reaction). IsParted C x.site × ((n : Message) → Member n x.sent → IsOneSided C n.kind)) (reaction-is s m x e) (react-parted g s P m.kind one, react-sided g s P m.kind)
 
@@ -257,7 +262,8 @@ module _ (C : Cases) where
     got-seen s Repeat = refl
     got-seen s (New x) = refl
 
-    got-unseen : (s : Site) → IsParted C s → (m : Message) → IsOneSided C m.kind → of_message C m ≡ false → (z : Received Reaction) → receive g s m ≡ z → keep_site C (after_message s z) ≡ keep_site C s
+    got-unseen : (s : Site) → IsParted C s → (m : Message) → IsOneSided C m.kind → of_message C m ≡ false → (z : Received Reaction) →
+        receive g s m ≡ z → keep_site C (after_message s z) ≡ keep_site C s
     got-unseen s P m one i BadName e = refl
     got-unseen s P m one i NotMine e = refl
     got-unseen s P m one i (Conflict a b) e = refl
@@ -285,13 +291,15 @@ module _ (C : Cases) where
     split-first true e es = refl
     split-first false e es = refl
 
-    run-kept : (s : Site) (es : List SiteEvent) → IsParted C s → Each (IsOneSidedEvent C) es → (keep_site C (site_run g s es) ≡ site_run g (keep_site C s) (filter (of_event C) es)) × IsParted C (site_run g s es)
+    run-kept : (s : Site) (es : List SiteEvent) → IsParted C s → Each (IsOneSidedEvent C) es →
+        (keep_site C (site_run g s es) ≡ site_run g (keep_site C s) (filter (of_event C) es)) × IsParted C (site_run g s es)
     run-kept s [] P one = (refl, P)
     run-kept s (e ∷ es) P one =
         let (later, Q) = run-kept (site_step g s e) es (step-parted s P e one.0) one.1 in (
           later
               ∙ (ap (λ t. site_run g t (filter (of_event C) es)) (step-kept s P e one.0 (of_event C e) refl)
-              ∙ (sym (events-append g (keep_site C s) (cond (of_event C e) (e ∷ []) []) (filter (of_event C) es)) ∙ ap (site_run g (keep_site C s)) (split-first (of_event C e) e (filter (of_event C) es)))),
+              ∙ (sym (events-append g (keep_site C s) (cond (of_event C e) (e ∷ []) []) (filter (of_event C) es)) ∙ ap (site_run g (keep_site C s))
+              (split-first (of_event C e) e (filter (of_event C) es)))),
           Q,
         )
 

@@ -71,7 +71,8 @@ module _ (C : Cases) where
   insert-first h [] f = refl
   insert-first h (k ∷ hs) f = ap (λ b. cond b (h ∷ k ∷ hs) (k ∷ insert_by place h hs)) (f k (inl refl))
 
-  insert-at : (h k : Held) (ks ls : List Held) (b d : Bool) → node_lt h.node k.node ≡ b → of_held C k ≡ d → of_held C h ≡ true → ls ≡ filter (of_held C) ks → (node_lt h.node k.node ≡ true → AfterAll h.node (k ∷ ks))
+  insert-at : (h k : Held) (ks ls : List Held) (b d : Bool) → node_lt h.node k.node ≡ b → of_held C k ≡ d → of_held C h ≡ true →
+      ls ≡ filter (of_held C) ks → (node_lt h.node k.node ≡ true → AfterAll h.node (k ∷ ks))
       → filter (of_held C) (insert_by place h ks) ≡ insert_by place h ls
       → filter (of_held C) (cond b (h ∷ k ∷ ks) (k ∷ insert_by place h ks)) ≡ insert_by place h (cond d (k ∷ ls) ls)
   insert-at h k ks ls true d p q i e up f =
@@ -103,7 +104,8 @@ module _ (C : Cases) where
   insert-kept h [] i up = ap (λ b. cond b (h ∷ []) []) i
   insert-kept h (k ∷ ks) i up = insert-at h k ks (filter (of_held C) ks) (node_lt h.node k.node) (of_held C k) refl refl i refl (λ l. after-first h.node k ks up.0 l) (insert-kept h ks i up.1)
 
-  other-insert-at : (h k : Held) (ks : List Held) (b : Bool) → of_held C h ≡ false → filter (of_held C) (insert_by place h ks) ≡ filter (of_held C) ks → filter (of_held C) (cond b (h ∷ k ∷ ks) (k ∷ insert_by place h ks)) ≡ filter (of_held C) (k ∷ ks)
+  other-insert-at : (h k : Held) (ks : List Held) (b : Bool) → of_held C h ≡ false → filter (of_held C) (insert_by place h ks) ≡ filter (of_held C)
+      ks → filter (of_held C) (cond b (h ∷ k ∷ ks) (k ∷ insert_by place h ks)) ≡ filter (of_held C) (k ∷ ks)
   other-insert-at h k ks true i f = ap (λ b. cond b (h ∷ filter (of_held C) (k ∷ ks)) (filter (of_held C) (k ∷ ks))) i
   other-insert-at h k ks false i f = ap (λ xs. cond (of_held C k) (k ∷ xs) xs) f
 
@@ -159,7 +161,8 @@ module _ (C : Cases) where
       let later = mark-kept n s hs in
       (λ i. cond (here i) (mark n s h ∷ later i) (later i)) ∙ by (of_held C h)
     where
-      by : (b : Bool) → cond b (mark n s h ∷ map (mark n s) (filter (of_held C) hs)) (map (mark n s) (filter (of_held C) hs)) ≡ map (mark n s) (cond b (h ∷ filter (of_held C) hs) (filter (of_held C) hs))
+      by : (b : Bool) → cond b (mark n s h ∷ map (mark n s) (filter (of_held C) hs)) (map (mark n s) (filter (of_held C) hs)) ≡ map (mark n s)
+          (cond b (h ∷ filter (of_held C) hs) (filter (of_held C) hs))
       by true = refl
       by false = refl
 
@@ -168,7 +171,8 @@ module _ (C : Cases) where
   not-marked n s h false e f = refl
 
   -- of a node of another case nothing is seen
-  mark-one : (n : Node) (s : State) (h : Held) (hs ls : List Held) (b : Bool) → of_held C h ≡ b → of_node C n ≡ false → map (mark n s) ls ≡ ls → map (mark n s) (cond b (h ∷ ls) ls) ≡ cond b (h ∷ ls) ls
+  mark-one : (n : Node) (s : State) (h : Held) (hs ls : List Held) (b : Bool) → of_held C h ≡ b → of_node C n ≡ false → map (mark n s) ls ≡ ls →
+      map (mark n s) (cond b (h ∷ ls) ls) ≡ cond b (h ∷ ls) ls
   mark-one n s h hs ls true e i f =
       let here = not-marked n s h (node_eq n h.node) refl (λ p. let z : true ≡ false = sym e ∙ (ap (of_node C) (sym p) ∙ i) in absurd cc) in
       λ j. here j ∷ f j
@@ -230,7 +234,8 @@ module _ (C : Cases) where
         let a : (keep_site C (asking g s first rs).site).asked ≡ (keep_site C s).asked =
         fun_ext (λ r. added-other (s.asked r) (has_ref r wanted) (of_ref C r) (λ h. wanted-on false rs on r (has_ref-true r wanted h))) in
         let q : filter (of_message C) (first ++ map (ask_message g s.role) wanted) ≡ [] = filter-append (of_message C) first (map (ask_message g s.role) wanted) ∙ (λ i. e i ++ asks i) in
-        let o = filter-append (of_message C) s.outbox (first ++ map (ask_message g s.role) wanted) ∙ (ap (λ xs. filter (of_message C) s.outbox ++ xs) q ∙ append-nil (filter (of_message C) s.outbox)) in
+        let o = filter-append (of_message C) s.outbox (first ++ map (ask_message g s.role) wanted)
+        ∙ (ap (λ xs. filter (of_message C) s.outbox ++ xs) q ∙ append-nil (filter (of_message C) s.outbox)) in
         λ i. record { site = record (keep_site C s) { asked = a i; outbox = o i }; sent = q i }
 
     -- calls and tells

@@ -32,7 +32,8 @@ module _ (g : Grammar) where
   same-step s (Chose c) i = absurd cc
   same-step s (Got m) i = same-got s (receive g s m) i
 
-  counted-by : (s : Site) (e : SiteEvent) (es fs : List SiteEvent) (b : Bool) → counts g s e ≡ b → site_run g (site_step g s e) es ≡ site_run g (site_step g s e) fs → site_run g s (cond b (e ∷ es) es) ≡ site_run g (site_step g s e) fs
+  counted-by : (s : Site) (e : SiteEvent) (es fs : List SiteEvent) (b : Bool) → counts g s e ≡ b → site_run g (site_step g s e) es ≡ site_run g
+      (site_step g s e) fs → site_run g s (cond b (e ∷ es) es) ≡ site_run g (site_step g s e) fs
   counted-by s e es fs true i h = h
   counted-by s e es fs false i h = ap (λ t. site_run g t es) (sym (same-step s e i)) ∙ h
 
@@ -77,18 +78,23 @@ module _ (g : Grammar) where
     one-sided sites A r (Got m) t i = elim (t i) [ inl s ↦ (A s.0).1 m s.1 | inr o ↦ o ]
 
     -- the same of the role at which an event came
-    one-at : (sites : ℕ → Site) → ((a : ℕ) → IsApart (sites a)) → (x : RoleEvent) → TiesNone C g sites x.role x.event → (r : ℕ) → nat_eq x.role r ≡ true → counts g (sites r) x.event ≡ true → IsOneSidedEvent C x.event
+    one-at : (sites : ℕ → Site) → ((a : ℕ) → IsApart (sites a)) → (x : RoleEvent) → TiesNone C g sites x.role x.event → (r : ℕ) →
+        nat_eq x.role r ≡ true → counts g (sites r) x.event ≡ true → IsOneSidedEvent C x.event
     one-at sites A x t r e = subst (λ (a : ℕ). counts g (sites a) x.event ≡ true → IsOneSidedEvent C x.event) (eqb-true x.role r e) (one-sided sites A x.role x.event t)
 
-    apart-by : (sites : ℕ → Site) → ((a : ℕ) → IsApart (sites a)) → (x : RoleEvent) → TiesNone C g sites x.role x.event → (r : ℕ) (b : Bool) → nat_eq x.role r ≡ b → IsApart (cond b (site_step g (sites r) x.event) (sites r))
+    apart-by : (sites : ℕ → Site) → ((a : ℕ) → IsApart (sites a)) → (x : RoleEvent) → TiesNone C g sites x.role x.event → (r : ℕ) (b : Bool) →
+        nat_eq x.role r ≡ b → IsApart (cond b (site_step g (sites r) x.event) (sites r))
     apart-by sites A x t r false e = A r
     apart-by sites A x t r true e = step-apart (sites r) x.event (A r) (one-at sites A x t r e) (counts g (sites r) x.event) refl
 
-    each-by : (s : Site) (e : SiteEvent) (es : List SiteEvent) → (counts g s e ≡ true → IsOneSidedEvent C e) → Each (IsOneSidedEvent C) es → (b : Bool) → counts g s e ≡ b → Each (IsOneSidedEvent C) (cond b (e ∷ es) es)
+    each-by : (s : Site) (e : SiteEvent) (es : List SiteEvent) → (counts g s e ≡ true → IsOneSidedEvent C e) → Each (IsOneSidedEvent C) es →
+        (b : Bool) → counts g s e ≡ b → Each (IsOneSidedEvent C) (cond b (e ∷ es) es)
     each-by s e es one later true i = (one i, later)
     each-by s e es one later false i = later
 
-    came-by : (sites : ℕ → Site) → ((a : ℕ) → IsApart (sites a)) → (x : RoleEvent) → TiesNone C g sites x.role x.event → (r : ℕ) (es : List SiteEvent) (b : Bool) → nat_eq x.role r ≡ b → Each (IsOneSidedEvent C) (counted g (cond b (site_step g (sites r) x.event) (sites r)) es) → Each (IsOneSidedEvent C) (counted g (sites r) (cond b (x.event ∷ es) es))
+    came-by : (sites : ℕ → Site) → ((a : ℕ) → IsApart (sites a)) → (x : RoleEvent) → TiesNone C g sites x.role x.event → (r : ℕ) (es : List SiteEvent)
+        (b : Bool) → nat_eq x.role r ≡ b → Each (IsOneSidedEvent C) (counted g (cond b (site_step g (sites r) x.event) (sites r)) es) →
+        Each (IsOneSidedEvent C) (counted g (sites r) (cond b (x.event ∷ es) es))
     came-by sites A x t r es false e later = later
     came-by sites A x t r es true e later = each-by (sites r) x.event (counted g (site_step g (sites r) x.event) es) (one-at sites A x t r e) later (counts g (sites r) x.event) refl
 

@@ -40,11 +40,13 @@ turning P d (suc k) f h = elim (d k) [ inl x ↦ (let (n, l, a, b) = turning P d
 
 module _ (t : Types) (g : Grammar) (given : Given g) (fold : SiteIsFold g) where
   -- only declared roles have events that came
-  others-none : (done : ℕ → List SiteEvent) (fs : List Move) → Came t g done fs → (xs : List Entry) (es : List Move) → AllFit t g (world_after g true fs) xs es → (r : ℕ) → g.roles ≤ r → of_role r xs ≡ []
+  others-none : (done : ℕ → List SiteEvent) (fs : List Move) → Came t g done fs → (xs : List Entry) (es : List Move) →
+      AllFit t g (world_after g true fs) xs es → (r : ℕ) → g.roles ≤ r → of_role r xs ≡ []
   others-none done fs c [] [] f r l = refl
   others-none done fs c (x ∷ xs) (e ∷ es) f r l =
       let a = fits-role t g given fold done fs c x.role x.event e f.0 in
-      let next = others-none (λ r. done r ++ of_role r (x ∷ [])) (fs ++ e ∷ []) (came-more t g done fs x e c f.0) xs es (subst (λ w. AllFit t g w xs es) (sym (run_both g (empty_world g true) fs (e ∷ []))) f.1) r l in
+      let next = others-none (λ r. done r ++ of_role r (x ∷ [])) (fs ++ e ∷ []) (came-more t g done fs x e c f.0) xs es
+      (subst (λ w. AllFit t g w xs es) (sym (run_both g (empty_world g true) fs (e ∷ []))) f.1) r l in
       other x xs r (nat_eq x.role r) refl (λ p. absurd (omega (arith, a, l, p))) next
     where
       other : (x : Entry) (xs : List Entry) (r : ℕ) (b : Bool) → nat_eq x.role r ≡ b → (x.role ≡ r → Never) → of_role r xs ≡ [] → cond b (x.event ∷ of_role r xs) (of_role r xs) ≡ []
@@ -75,7 +77,8 @@ module _ (t : Types) (g : Grammar) (given : Given g) (fold : SiteIsFold g) where
             | inr l ↦ l
             | inl l ↦ elim (cases_lt b g.roles) [
               | inl declared ↦ (let i = front-box g (empty_site true b) (journal_at js b) (suc n) (get 0 ns b) l m after in
-                  never (unsent (sent-there t g given fold (λ r. take (get 0 ns r) (journal_at js r)) es (firsts-came t g js ns es R.joint) b declared (take (get 0 ns b) (journal_at js b)) [] (sym (append-nil (take (get 0 ns b) (journal_at js b)))) m i)))
+                  never (unsent (sent-there t g given fold (λ r. take (get 0 ns r) (journal_at js r)) es (firsts-came t g js ns es R.joint) b declared
+                  (take (get 0 ns b) (journal_at js b)) [] (sym (append-nil (take (get 0 ns b) (journal_at js b)))) m i)))
               | inr other ↦ (let c = firsts-came t g js ns es R.joint in
                   let none = sym (c.1 b) ∙ others-none (λ r. []) [] (came-none t g) c.0 es c.2 b other in
                   let size = length-first (journal_at js b) (get 0 ns b) (R.within b) in

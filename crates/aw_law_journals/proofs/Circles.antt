@@ -58,7 +58,8 @@ has-journal [] r n l = absurd (omega (arith, l))
 has-journal (j ∷ js) zero n l = omega arith
 has-journal (j ∷ js) (suc r) n l = let z = has-journal js r n l in omega (arith, z)
 
-module _ (t : Types) (g : Grammar) (given : Given g) (fold : SiteIsFold g) (js : List (List SiteEvent)) (ns : List ℕ) (es : List Move) (R : IsReach t g js ns es) (sense : (r : ℕ) → MakesSense t g js r) where
+module _ (t : Types) (g : Grammar) (given : Given g) (fold : SiteIsFold g) (js : List (List SiteEvent)) (ns : List ℕ) (es : List Move)
+    (R : IsReach t g js ns es) (sense : (r : ℕ) → MakesSense t g js r) where
   abbrev w : World
   w = world_after g true es
 

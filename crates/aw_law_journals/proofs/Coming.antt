@@ -174,7 +174,8 @@ module _ (t : Types) (g : Grammar) where
         let k = subst (λ hs. Member m (site_run g (empty_site true b) hs).outbox) (sym p) j in
         ((came-mail gone fs c).boxes b m (subst (λ (s : Site). Member m s.outbox) (sym (came-site gone fs c b l)) k)).0
 
-    same-site : (done gone : ℕ → List SiteEvent) (es fs : List Move) → Came done es → Came gone fs → (a : ℕ) → a < g.roles → done a ≡ gone a → site_at (world_after g true es) a ≡ site_at (world_after g true fs) a
+    same-site : (done gone : ℕ → List SiteEvent) (es fs : List Move) → Came done es → Came gone fs → (a : ℕ) → a < g.roles → done a ≡ gone a →
+        site_at (world_after g true es) a ≡ site_at (world_after g true fs) a
     same-site done gone es fs c d a l p = came-site done es c a l ∙ (ap (site_run g (empty_site true a)) p ∙ sym (came-site gone fs d a l))
 
     -- an event that fits in the one world fits in the other, where its role has had the same events and each role as many or more

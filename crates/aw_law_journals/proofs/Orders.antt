@@ -33,7 +33,8 @@ run-keeps g w es m i = let (k, s) = member-get w.messages m i in member_got (run
 answer-of : {a b : Answer Ref} → Answered a ≡ Answered b → a ≡ b
 answer-of e = cc
 
-taken-one : (g : Grammar) → RefusalsAreNotTaken g → (w : World) (r : ℕ) (c : Choice) (s : Site) (z : Chosen) → choose g s c ≡ z → (chosen_at w r c z).reply ≡ Answered Taken → (chosen_at w r c z).world.taken ≡ w.taken ++ c ∷ []
+taken-one : (g : Grammar) → RefusalsAreNotTaken g → (w : World) (r : ℕ) (c : Choice) (s : Site) (z : Chosen) → choose g s c ≡ z →
+    (chosen_at w r c z).reply ≡ Answered Taken → (chosen_at w r c z).world.taken ≡ w.taken ++ c ∷ []
 taken-one g refusals w r c s (No a) e h = never (refusals s c a e (answer-of h))
 taken-one g refusals w r c s (Did x) e h = refl
 
@@ -120,7 +121,8 @@ module _ (t : Types) (g : Grammar) where
     taken-to w [] (e ∷ es) f c i = never f
     taken-to w (x ∷ xs) [] f c i = never f
 
-    same-taken : (js : List (List SiteEvent)) (es fs : List Move) → IsJoint t g js es → IsJoint t g js fs → (c : Choice) → Member c (world_after g true es).taken → Member c (world_after g true fs).taken
+    same-taken : (js : List (List SiteEvent)) (es fs : List Move) → IsJoint t g js es → IsJoint t g js fs → (c : Choice) →
+        Member c (world_after g true es).taken → Member c (world_after g true fs).taken
     same-taken js es fs j k c i =
         elim (taken-from (empty_world g true) j.0 es j.2 c i) [
           | inl n ↦ never n
@@ -156,7 +158,8 @@ module _ (t : Types) (g : Grammar) where
         let later = same-sites (λ r. d (suc r)) xs ys (omega arith) (λ r k. f (suc r) (omega arith)) in
         λ i. here i ∷ later i
 
-    same-messages : (js : List (List SiteEvent)) (es fs : List Move) → IsJoint t g js es → IsJoint t g js fs → (m : Message) → Member m (world_after g true es).messages → Member m (world_after g true fs).messages
+    same-messages : (js : List (List SiteEvent)) (es fs : List Move) → IsJoint t g js es → IsJoint t g js fs → (m : Message) →
+        Member m (world_after g true es).messages → Member m (world_after g true fs).messages
     same-messages js es fs j k m i =
         let (l, box) = sent-by t g given fold (journal_at js) es j m i in
         let b = sender g m.kind in

@@ -1,6 +1,7 @@
 -- The greedy join goes as far as the journals fit.
 use Rattle.std.specs.Prelude.{slice_get, slice_set, nat_eq, take, ◌&&◌}
-use Rattle.std.proofs.Common.{◌≡◌, ℕ, zero, suc, ◌+◌, ◌-◌, ◌<◌, ◌≤◌, Bool, true, false, cond, List, [], ◌∷◌, ◌++◌, map, length, Option, Some, None, refl, sym, ap, ◌∙◌, subst, inl, inr, arith, eq-eqb, eqb-true, append-nil}
+use Rattle.std.proofs.Common.{◌≡◌, ℕ, zero, suc, ◌+◌, ◌-◌, ◌<◌, ◌≤◌, Bool, true, false, cond, List, [], ◌∷◌, ◌++◌, map, length, Option, Some, None}
+use Rattle.std.proofs.Common.{refl, sym, ap, ◌∙◌, subst, inl, inr, arith, eq-eqb, eqb-true, append-nil}
 use Rattle.std.proofs.lemmas.Bool.{cases_lt, and_parts, and_from}
 use Rattle.std.proofs.lemmas.Option.{same_Some, slice_get_within}
 use Rattle.aw_list.proofs.Members.{never, member_got}
@@ -132,7 +133,8 @@ module _ (t : Types) (g : Grammar) where
   allowed-fits w r (Got m) e p = got-fits w r m e (number_of 0 m w.messages) refl p
 
   -- and all that fits is allowed
-  got-allowed : (w : World) → Mail g w → (r : ℕ) (m : Message) (k : ℕ) → Fits t g w r (Got m) (Delivers k) → (o : Option ℕ) → number_of 0 m w.messages ≡ o → delivery g w (nat_eq m.to r) o ≡ None → Never
+  got-allowed : (w : World) → Mail g w → (r : ℕ) (m : Message) (k : ℕ) → Fits t g w r (Got m) (Delivers k) → (o : Option ℕ) →
+      number_of 0 m w.messages ≡ o → delivery g w (nat_eq m.to r) o ≡ None → Never
   got-allowed w M r m k f None n p = number-none 0 m w.messages n (member_got w.messages k m f.1)
   got-allowed w M r m k f (Some i) n p =
       let (j, z, s) = number-found 0 m w.messages i n in
@@ -209,7 +211,8 @@ module _ (t : Types) (g : Grammar) where
         let f' = subst (λ w. Fits t g w a event x.move) F.here f in
         let at : (r : ℕ) → nat_eq a r ≡ true → next_of p r ≡ Some event = λ r e. subst (λ r. next_of p r ≡ Some event) (eqb-true a r e) q in
         record {
-          came = came-as t g (λ r. take (get 0 p.counts r) (journal_at js r) ++ of_role r (entry ∷ [])) (λ r. take (get 0 (slice_set p.counts a (suc (get 0 p.counts a))) r) (journal_at js r)) (p.moves ++ x.move ∷ [])
+          came = came-as t g (λ r. take (get 0 p.counts r) (journal_at js r) ++ of_role r (entry ∷ []))
+              (λ r. take (get 0 (slice_set p.counts a (suc (get 0 p.counts a))) r) (journal_at js r)) (p.moves ++ x.move ∷ [])
               (λ r. grown (journal_at js r) (get 0 p.counts r) event (nat_eq a r) (at r) ∙ ap (λ n. take n (journal_at js r)) (sym (counted p.counts a r l (nat_eq a r) refl)))
               (came-more t g (λ r. take (get 0 p.counts r) (journal_at js r)) p.moves entry x.move F.came f');
           here = ap (λ w. (step g w x.move).world) F.here ∙ sym (run_both g (empty_world g true) p.moves (x.move ∷ []));
@@ -238,7 +241,8 @@ module _ (t : Types) (g : Grammar) where
           let z = next-none p 0 (length js) n r (omega arith) (omega (arith, l)) in
           fits-allowed p.world (mail-of p F) r event e f (sym (ap (allowed t g p.world r) q) ∙ z)
 
-      some-event : (p : Progress) (x : Turn) (o : Option SiteEvent) → next_of p x.role ≡ o → allowed t g p.world x.role o ≡ Some x.move → (event : SiteEvent) × (next_of p x.role ≡ Some event) × Fits t g p.world x.role event x.move
+      some-event : (p : Progress) (x : Turn) (o : Option SiteEvent) → next_of p x.role ≡ o → allowed t g p.world x.role o ≡ Some x.move →
+          (event : SiteEvent) × (next_of p x.role ≡ Some event) × Fits t g p.world x.role event x.move
       some-event p x None q a = absurd cc
       some-event p x (Some event) q a = (event, q, allowed-fits p.world x.role event x.move a)
 
@@ -253,7 +257,8 @@ module _ (t : Types) (g : Grammar) where
       abbrev Ends : Progress → Type 0
       Ends p = Followed p × Stops p
 
-      turns-on : (n : ℕ) (p : Progress) → Followed p → left p.counts js ≤ suc n → ((q : Progress) → Followed q → left q.counts js ≤ n → Ends (turns n t g js q)) → (o : Option Turn) → next_turn t g js p 0 (length js) ≡ o
+      turns-on : (n : ℕ) (p : Progress) → Followed p → left p.counts js ≤ suc n → ((q : Progress) → Followed q → left q.counts js ≤ n →
+          Ends (turns n t g js q)) → (o : Option Turn) → next_turn t g js p 0 (length js) ≡ o
           → Ends (turns_by n p o)
       turns-on n p F l f None e = (F, none-left p F e)
       turns-on n p F l f (Some x) e =

@@ -1,6 +1,7 @@
 -- How far journals fit is unique, and no order goes further.
 use Rattle.std.specs.Prelude.{slice_get, nat_eq, take, drop}
-use Rattle.std.proofs.Common.{◌≡◌, ℕ, zero, suc, ◌-◌, ◌<◌, ◌≤◌, Bool, true, false, cond, List, [], ◌∷◌, ◌++◌, map, length, Some, refl, sym, ap, ◌∙◌, subst, inl, inr, append_assoc, append-nil, arith, length-append, eq-eqb, eqb-true, le_of_eq}
+use Rattle.std.proofs.Common.{◌≡◌, ℕ, zero, suc, ◌-◌, ◌<◌, ◌≤◌, Bool, true, false, cond, List, [], ◌∷◌, ◌++◌, map, length, Some, refl, sym, ap, ◌∙◌}
+use Rattle.std.proofs.Common.{subst, inl, inr, append_assoc, append-nil, arith, length-append, eq-eqb, eqb-true, le_of_eq}
 use Rattle.std.proofs.lemmas.Bool.{cases_lt}
 use Rattle.std.proofs.lemmas.List.{take-append-drop}
 use Rattle.aw_list.proofs.Members.{never}
@@ -101,7 +102,8 @@ module _ (t : Types) (g : Grammar) where
           let less = reached done fs c l (λ r. (of_role r (y ∷ ys) ++ rest r, p r)) y.role y.event (of_role y.role ys ++ rest y.role)
           (ap (λ xs. done y.role ++ (xs ++ rest y.role)) (sym (of-role-self y ys)) ∙ p y.role) d f.0 in
           let done' : ℕ → List SiteEvent = λ r. done r ++ of_role r (y ∷ []) in
-          let more : (r : ℕ) → length (done' r) ≤ get 0 ns r = λ r. one-more y.role r (get 0 ns r) y.event (done r) (nat_eq y.role r) refl (l r) (λ e. subst (λ r. length (done r) < get 0 ns r) e less) in
+          let more : (r : ℕ) → length (done' r) ≤ get 0 ns r = λ r. one-more y.role r (get 0 ns r) y.event (done r) (nat_eq y.role r) refl (l r)
+          (λ e. subst (λ r. length (done r) < get 0 ns r) e less) in
           let parts : (r : ℕ) → done' r ++ (of_role r ys ++ rest r) ≡ journal_at js r =
           λ r. append_assoc (done r) (of_role r (y ∷ [])) (of_role r ys ++ rest r)
           ∙ (ap (λ xs. done r ++ xs) (sym (append_assoc (of_role r (y ∷ [])) (of_role r ys) (rest r)) ∙ ap (λ xs. xs ++ rest r) (sym (of-role-cons r y ys))) ∙ p r) in

@@ -64,7 +64,8 @@ module _ (g : Grammar) (homes : HomesAreRoles g) where
     size : length w.sites ≡ g.roles
     own : (a : ℕ) → (site_at w a).choices ≡ of_role a w.taken
 
-  took-choices : (w : World) (c : Choice) (z : Chosen) → choose g (site_at w (home g (node_of c))) c ≡ z → home g (node_of c) < g.roles → HasChoices w → HasChoices (chosen_at w (home g (node_of c)) c z).world
+  took-choices : (w : World) (c : Choice) (z : Chosen) → choose g (site_at w (home g (node_of c))) c ≡ z → home g (node_of c) < g.roles →
+      HasChoices w → HasChoices (chosen_at w (home g (node_of c)) c z).world
   took-choices w c (No a) e l H = H
   took-choices w c (Did x) e l H =
       let r = home g (node_of c) in record {
@@ -116,7 +117,8 @@ module _ (g : Grammar) (homes : HomesAreRoles g) where
   has-choices : (loads : Bool) (es : List Move) → Each (MayCome g) es → HasChoices (world_after g loads es)
   has-choices loads es k = run-choices (empty_world g loads) es k (record { size = empty-size loads 0 g.roles; own = λ a. empty-own loads 0 g.roles a a })
 
-  some-same : (w v : World) → HasChoices w → HasChoices v → ((x : Choice) → Member x w.taken → Member x v.taken) → (a : ℕ) (c : Choice) → Member c (site_at w a).choices → Member c (site_at v a).choices
+  some-same : (w v : World) → HasChoices w → HasChoices v → ((x : Choice) → Member x w.taken → Member x v.taken) → (a : ℕ) (c : Choice) →
+      Member c (site_at w a).choices → Member c (site_at v a).choices
   some-same w v H K f a c i =
       let (j, e) = Member-filtered (λ (c : Choice). nat_eq (home g (node_of c)) a) c w.taken (subst (Member c) (H.own a) i) in
       subst (Member c) (sym (K.own a)) (Member-filter (λ (c : Choice). nat_eq (home g (node_of c)) a) c v.taken (f c j) e)

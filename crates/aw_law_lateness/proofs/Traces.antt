@@ -56,7 +56,8 @@ module _ (words : Words) (g : Grammar) (accepted : IsAccepted words g) where
   both s t (inr a) b = a
 
   -- the nodes of the one are those of the other
-  joint-held : (cs ds : List Choice) (x y : Joint) → SameChoices cs ds → joint_run g empty_joint cs ≡ Some x → joint_run g empty_joint ds ≡ Some y → Fit g fit enter ok x → (h : Held) → Member h x.held → Member h y.held
+  joint-held : (cs ds : List Choice) (x y : Joint) → SameChoices cs ds → joint_run g empty_joint cs ≡ Some x → joint_run g empty_joint ds ≡ Some y →
+      Fit g fit enter ok x → (h : Held) → Member h x.held → Member h y.held
   joint-held cs ds x y same e f F h i =
       let xy = any_order g (Fit g fit enter ok) (fit_of g fit enter ok) (keep g fit enter ok) (fit_empty g fit enter ok) ds cs y x same.0 f e in
       let yx = any_order g (Fit g fit enter ok) (fit_of g fit enter ok) (keep g fit enter ok) (fit_empty g fit enter ok) cs ds x y same.1 e f in
@@ -66,14 +67,16 @@ module _ (words : Words) (g : Grammar) (accepted : IsAccepted words g) where
       let st = both h.state h1.state t1 (subst (λ (u : Held). Goes_on h1.state u.state) back t2) in
       subst (λ (u : Held). Member u y.held) (sym (λ z. record { node = e1 z; sort = s1 z; inherited = r1 z; state = st z })) m1
 
-  joint-equations : (cs ds : List Choice) (x y : Joint) → SameChoices cs ds → joint_run g empty_joint cs ≡ Some x → joint_run g empty_joint ds ≡ Some y → (r : Ref) (b : Body) → find x.equations r ≡ Some b → find y.equations r ≡ Some b
+  joint-equations : (cs ds : List Choice) (x y : Joint) → SameChoices cs ds → joint_run g empty_joint cs ≡ Some x → joint_run g empty_joint ds ≡ Some
+      y → (r : Ref) (b : Body) → find x.equations r ≡ Some b → find y.equations r ≡ Some b
   joint-equations cs ds x y same e f = (any_order g (Fit g fit enter ok) (fit_of g fit enter ok) (keep g fit enter ok) (fit_empty g fit enter ok) ds cs y x same.0 f e).equations
 
   pub same-back : (cs ds : List Choice) → SameChoices cs ds → SameChoices ds cs
   same-back cs ds (a, b) = (b, a)
 
   -- ---- quiet worlds
-  module _ (loads other : Bool) (w v : World) (x y : Joint) (W : IsWorld words g accepted loads w x) (V : IsWorld words g accepted other v y) (quiet : IsQuiet v) (same : SameChoices w.taken v.taken) where
+  module _ (loads other : Bool) (w v : World) (x y : Joint) (W : IsWorld words g accepted loads w x) (V : IsWorld words g accepted other v y)
+      (quiet : IsQuiet v) (same : SameChoices w.taken v.taken) where
     pub held-there : (a : ℕ) (h : Held) → Member h (site_at w a).held → Member h (site_at v a).held
     held-there a h i =
         let (j, at) = W.inv.held a h i in
@@ -93,7 +96,8 @@ module _ (words : Words) (g : Grammar) (accepted : IsAccepted words g) where
     led-known a r (own e m at i) = step-known a e m (inl (at ∙ W.inv.roles a)) r i
     led-known a r (further e l m i) = step-known a e m (led-known a e.left l) r i
 
-    pub equation-there : ((a : ℕ) (r : Ref) (b : Body) → find (site_at w a).equations r ≡ Some b → (home g r.node ≡ a → Never) → IsLedTo g (site_at w a) r) → (a : ℕ) (r : Ref) (b : Body) → find (site_at w a).equations r ≡ Some b → find (site_at v a).equations r ≡ Some b
+    pub equation-there : ((a : ℕ) (r : Ref) (b : Body) → find (site_at w a).equations r ≡ Some b → (home g r.node ≡ a → Never) →
+        IsLedTo g (site_at w a) r) → (a : ℕ) (r : Ref) (b : Body) → find (site_at w a).equations r ≡ Some b → find (site_at v a).equations r ≡ Some b
     equation-there learns a r b e =
         has_it words g accepted other v y V quiet a r b (known (same_or_not (home g r.node) a))
         (joint-equations w.taken v.taken x y same W.whole V.whole r b (knows words g accepted loads w x W a r b e))

@@ -56,7 +56,8 @@ chain-wider : (rs ss : List Ref) → ((r : Ref) → Member r rs → Member r ss)
 chain-wider rs ss f [] c = tt
 chain-wider rs ss f (e ∷ es) c = (
   f e.left c.0,
-  chain-wider (mentions e.body ++ rs) (mentions e.body ++ ss) (λ r m. elim (member_split r (mentions e.body) rs m) [ inl i ↦ member_left r (mentions e.body) ss i | inr i ↦ member_right r (mentions e.body) ss (f r i) ]) es c.1,
+  chain-wider (mentions e.body ++ rs) (mentions e.body ++ ss) (λ r m. elim (member_split r (mentions e.body) rs m)
+      [ inl i ↦ member_left r (mentions e.body) ss i | inr i ↦ member_right r (mentions e.body) ss (f r i) ]) es c.1,
 )
 
 module _ (g : Grammar) where
@@ -147,7 +148,8 @@ module _ (g : Grammar) where
     pub sent : (m : Message) → Member m x.sent → IsSentFrom x.site m m.kind
 
   -- a site that asks
-  asks-sent : (v : Site) (first : List Message) (rs : List Ref) → ((m : Message) → Member m first → IsSentFrom (asking g v first rs).site m m.kind) → (m : Message) → Member m (asking g v first rs).sent → IsSentFrom (asking g v first rs).site m m.kind
+  asks-sent : (v : Site) (first : List Message) (rs : List Ref) → ((m : Message) → Member m first → IsSentFrom (asking g v first rs).site m m.kind) →
+      (m : Message) → Member m (asking g v first rs).sent → IsSentFrom (asking g v first rs).site m m.kind
   asks-sent v first rs f m i =
       let wanted = filter (is_wanted g v) (in_order rs) in
       elim (member_split m first (map (ask_message g v.role) wanted) i) [
@@ -181,7 +183,8 @@ module _ (g : Grammar) where
   abbrev Nothing : Ref → ℕ → Type 0
   Nothing r to = Never
 
-  develop-learns : (s : Site) (c : Choice) (n : Node) (r : ℕ) (args : List Ground) (rule : Rule) (bound : List Ref) → home g n ≡ s.role → Learnt s (develop_site g s c n r args (made n r rule args bound)) Nothing
+  develop-learns : (s : Site) (c : Choice) (n : Node) (r : ℕ) (args : List Ground) (rule : Rule) (bound : List Ref) → home g n ≡ s.role →
+      Learnt s (develop_site g s c n r args (made n r rule args bound)) Nothing
   develop-learns s c n r args rule bound at =
       let m = made n r rule args bound in
       let own_ = calls_in g s.role m.calls in
@@ -195,7 +198,12 @@ module _ (g : Grammar) where
         grown = record {
           role = refl;
           equations = λ e i. member_left e s.equations m.equations i;
-          held = λ h i. (mark n (Done r args) h, Member-all_held (mark n (Done r args) h) own_ (map (mark n (Done r args)) s.held) (inr (member_map (mark n (Done r args)) h s.held i)), mark-refs (Done r args) h (node_eq n h.node));
+          held = λ h i. (
+            mark n (Done r args) h,
+            Member-all_held (mark n (Done r args) h) own_ (map (mark n (Done r args)) s.held)
+                (inr (member_map (mark n (Done r args)) h s.held i)),
+            mark-refs (Done r args) h (node_eq n h.node),
+          );
         };
         equations = λ e i. elim (member_split e s.equations m.equations i) [ inl j ↦ inl j | inr j ↦ inr (inl (mine e j)) ];
         asked = asks-asked v first rs (λ u i. elim (member_split u (all_mentions m.equations) (all_inherited own_) i) [
@@ -259,7 +267,8 @@ module _ (g : Grammar) where
   same-refs : (h : Held) (c : Call) (later : Option Clash) → call_clash (Some h) c later ≡ None → h.inherited ≡ c.inherited
   same-refs h c later e = same-by h c later (refs_eq h.inherited c.inherited) (record { kept = OfNode h.inherited; came = OfNode c.inherited }) refl e
 
-  call-root : (s : Site) (c : Call) (later : Option Clash) (o : Option Held) → held_of c.node s.held ≡ o → call_clash o c later ≡ None → (h : Held) × Member h (add_held o c s.held) × (h.inherited ≡ c.inherited)
+  call-root : (s : Site) (c : Call) (later : Option Clash) (o : Option Held) → held_of c.node s.held ≡ o → call_clash o c later ≡ None → (h : Held)
+      × Member h (add_held o c s.held) × (h.inherited ≡ c.inherited)
   call-root s c later None e q = (called_held c, Member-inserted_held (called_held c) (called_held c) s.held (inl refl), refl)
   call-root s c later (Some h) e q = (h, (held_of-found c.node s.held h e).0, same-refs h c later q)
 
@@ -322,7 +331,8 @@ module _ (g : Grammar) where
   no-clash (Some c) b x y e = absurd cc
   no-clash None b x y e = refl
 
-  pub receive-learns : (s : Site) (m : Message) (x : Reaction) → receive g s m ≡ New x → ComesFine s m.kind → ((e : Equation) → Member e (carried m.kind) → Member e x.site.equations) → Learnt s x (NewWatch m.kind)
+  pub receive-learns : (s : Site) (m : Message) (x : Reaction) → receive g s m ≡ New x → ComesFine s m.kind →
+      ((e : Equation) → Member e (carried m.kind) → Member e x.site.equations) → Learnt s x (NewWatch m.kind)
   receive-learns s m x e fine has =
       let a = cond-new (not (message_ok g s.role m)) BadName _ x (λ z. absurd cc) e in
       let b = cond-new (not (is_mine g s.role m)) NotMine _ x (λ z. absurd cc) a in

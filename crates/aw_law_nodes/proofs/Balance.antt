@@ -6,7 +6,9 @@ use Rattle.aw_term.specs.Rules.{Grammar, get}
 use Rattle.aw_term.specs.WellFormed.{Each}
 use Rattle.aw_apply.specs.Messages.{Message}
 use Rattle.aw_law_worlds.proofs.Places.{get-set, length-set}
-use Rattle.aw_law_nodes.specs.Couriers.{Heard, Pushed, Gave, NoMore, Session, Courier, for_role, without, turn_room, turn_messages, asks, after_reply, behind, pulls, pushes, requests, note, noted, after_session, AreReplies, AreTurns, after_all, moves, round_moves, flat}
+use Rattle.aw_law_nodes.specs.Couriers.{Heard, Pushed, Gave, NoMore, Session, Courier, for_role, without, turn_room, turn_messages, asks, after_reply}
+use Rattle.aw_law_nodes.specs.Couriers.{behind, pulls, pushes, requests, note, noted, after_session, AreReplies, AreTurns, after_all, moves}
+use Rattle.aw_law_nodes.specs.Couriers.{round_moves, flat}
 use Rattle.aw_law_nodes.specs.Nodes.{Frame, Push, Pull}
 use Rattle.aw_law_nodes.proofs.Knowing.{rest-waits}
 
@@ -25,7 +27,8 @@ one-fewer : (r : ℕ) (ws ms : List Message) (m : Message) → for_role r ws ≡
 one-fewer r [] ms m e = absurd cc
 one-fewer r (w ∷ ws) ms m e = go (nat_eq w.to r) e (one-fewer r ws ms m)
   where
-    go : (b : Bool) → cond b (w ∷ for_role r ws) (for_role r ws) ≡ m ∷ ms → (for_role r ws ≡ m ∷ ms → suc (length (without r ws)) ≡ length ws) → suc (length (cond b ws (w ∷ without r ws))) ≡ suc (length ws)
+    go : (b : Bool) → cond b (w ∷ for_role r ws) (for_role r ws) ≡ m ∷ ms → (for_role r ws ≡ m ∷ ms → suc (length (without r ws)) ≡ length ws) →
+        suc (length (cond b ws (w ∷ without r ws))) ≡ suc (length ws)
     go true e f = refl
     go false e f = ap suc (f e)
 
@@ -44,7 +47,8 @@ module _ (g : Grammar) (size : Frame → ℕ) where
 
   pull-one : (r p : ℕ) (c : Courier) → r < length c.places → p ≡ get 0 c.places r → (b : Bool) (x : Heard) (xs : List Heard) (rest : List Frame)
       → ((d : Courier) → r < length d.places → suc p ≡ get 0 d.places r → AreReplies size g rest xs → Balance (moves rest xs) d (noted r rest xs d))
-      → AreReplies size g (asks b (Pull p) (after_reply x rest)) (x ∷ xs) → Balance (moves (asks b (Pull p) (after_reply x rest)) (x ∷ xs)) c (noted r (asks b (Pull p) (after_reply x rest)) (x ∷ xs) c)
+      → AreReplies size g (asks b (Pull p) (after_reply x rest)) (x ∷ xs) → Balance (moves (asks b (Pull p) (after_reply x rest)) (x ∷ xs)) c
+      (noted r (asks b (Pull p) (after_reply x rest)) (x ∷ xs) c)
   pull-one r p c l e false x xs rest f a = never a
   pull-one r p c l e true (Gave m) xs rest f a =
       let n = length-set c.places r (suc p) in
@@ -74,14 +78,16 @@ module _ (g : Grammar) (size : Frame → ℕ) where
       let q = z.moved in
       record { places = z.places; moved = omega (arith, q, w) }
 
-  pushes-balance : (ms : List Message) (room r p : ℕ) (xs : List Heard) (c : Courier) → for_role r c.waiting ≡ ms → r < length c.places → p ≡ get 0 c.places r → AreReplies size g (pushes size room ms p xs) xs
+  pushes-balance : (ms : List Message) (room r p : ℕ) (xs : List Heard) (c : Courier) → for_role r c.waiting ≡ ms → r < length c.places →
+      p ≡ get 0 c.places r → AreReplies size g (pushes size room ms p xs) xs
       → Balance (moves (pushes size room ms p xs) xs) c (noted r (pushes size room ms p xs) xs c)
   pushes-balance [] room r p xs c q l e a = pulls-balance xs room turn_messages r p c l e a
   pushes-balance (m ∷ ms) room r p xs c q l e a =
       push-one r m ms c q (nat_le (size (Push m)) room) xs (pushes size (room - size (Push m)) ms p (behind xs))
       (λ d z u b. pushes-balance ms (room - size (Push m)) r p (behind xs) d z (subst (λ (ps : List ℕ). r < length ps) (sym u) l) (e ∙ ap (λ (ps : List ℕ). get 0 ps r) (sym u)) b) a
 
-  session-balance : (c : Courier) (s : Session) → s.role < length c.places → s.asked ≡ requests size c s.role s.heard → AreReplies size g s.asked s.heard → Balance (moves s.asked s.heard) c (after_session c s)
+  session-balance : (c : Courier) (s : Session) → s.role < length c.places → s.asked ≡ requests size c s.role s.heard → AreReplies size g s.asked
+      s.heard → Balance (moves s.asked s.heard) c (after_session c s)
   session-balance c s l q a =
       subst (λ fs. AreReplies size g fs s.heard → Balance (moves fs s.heard) c (noted s.role fs s.heard c)) (sym q)
       (λ a. pushes-balance (for_role s.role c.waiting) turn_room s.role (get 0 c.places s.role) s.heard c refl l refl a) a

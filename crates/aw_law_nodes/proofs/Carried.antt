@@ -18,7 +18,9 @@ use Rattle.aw_law_worlds.specs.Laws.{MayCome, world_after}
 use Rattle.aw_law_worlds.proofs.Lists.{Member-filter}
 use Rattle.aw_law_worlds.proofs.Places.{member-get, same_or_not}
 use Rattle.aw_law_worlds.proofs.Settling.{run_both}
-use Rattle.aw_law_nodes.specs.Couriers.{Session, Courier, new_courier, for_role, turn_room, after_session, AreTurns, round_moves, after_all, flat, IsRound, IsQuietCall, Visit, choice_frames, session_frames, visit_frames, IsHonestWire, session_of, NoneLater, ChoicesOk}
+use Rattle.aw_law_nodes.specs.Couriers.{Session, Courier, new_courier, for_role, turn_room, after_session, AreTurns, round_moves, after_all, flat}
+use Rattle.aw_law_nodes.specs.Couriers.{IsRound, IsQuietCall, Visit, choice_frames, session_frames, visit_frames, IsHonestWire, session_of, NoneLater}
+use Rattle.aw_law_nodes.specs.Couriers.{ChoicesOk}
 use Rattle.aw_law_nodes.specs.Nodes.{Frame, Pull, Asked, sites_after, happenings, ReadAs}
 use Rattle.aw_law_nodes.proofs.Mail.{Given}
 use Rattle.aw_law_nodes.proofs.Served.{IsReached, reached-run, reached-mail}
@@ -64,8 +66,11 @@ module _ (g : Grammar) where
   honest-append : (ss : List Site) (xs ys : List Visit) → IsHonestWire g ss (xs ++ ys) → IsHonestWire g ss xs × IsHonestWire g (sites_after g ss (visit_frames g xs)) ys
   honest-append ss [] ys h = (tt, h)
   honest-append ss (v ∷ xs) ys h =
-      let z = honest-append (sites_after g (sites_after g ss (choice_frames g v)) (session_frames v)) xs ys h.1 in
-      ((h.0, z.0), subst (λ ss. IsHonestWire g ss ys) (sym (sites-append g ss (choice_frames g v) (session_frames v ++ visit_frames g xs) ∙ sites-append g (sites_after g ss (choice_frames g v)) (session_frames v) (visit_frames g xs))) z.1)
+      let z = honest-append (sites_after g (sites_after g ss (choice_frames g v)) (session_frames v)) xs ys h.1 in (
+        (h.0, z.0),
+        subst (λ ss. IsHonestWire g ss ys) (sym (sites-append g ss (choice_frames g v) (session_frames v ++ visit_frames g xs)
+            ∙ sites-append g (sites_after g ss (choice_frames g v)) (session_frames v) (visit_frames g xs))) z.1,
+      )
 
   -- the last round
   record Ended_quiet (w : World) (as_ : List Asked) : Type 0 where
@@ -106,15 +111,19 @@ module _ (g : Grammar) where
     turns-append c (x ∷ xs) ys t = let z = turns-append (after_session c x) xs ys t.2 in ((t.0, t.1, z.0), z.1)
 
     module _ (small : (p : ℕ) → size (Pull p) ≤ turn_room) where
-      last-quiet : (w : World) → IsReached g G loads w → (c : Courier) → Knows g size w c → (vs : List Visit) → IsRound g (map session_of vs) → AreTurns size g c (map session_of vs) → Each (ChoicesOk g) vs → NoneLater vs → IsHonestWire g w.sites vs → round_moves (map session_of vs) ≡ 0 → Ended_quiet w (visit_frames g vs)
+      last-quiet : (w : World) → IsReached g G loads w → (c : Courier) → Knows g size w c → (vs : List Visit) → IsRound g (map session_of vs) →
+          AreTurns size g c (map session_of vs) → Each (ChoicesOk g) vs → NoneLater vs → IsHonestWire g w.sites vs →
+          round_moves (map session_of vs) ≡ 0 → Ended_quiet w (visit_frames g vs)
       last-quiet w R c K [] o t k n h m = record { ran = ran-none g w; quiet = is-quiet w R c K (λ r l. of-round (IsStill w c) [] 0 g.roles o tt r (omega arith) (omega arith)) }
       last-quiet w R c K (v ∷ vs) o t k n h m =
           let A = choices-go g G loads w R v k.0 in
           let U = reached-run g G loads w R A.events A.ok in
           let L = knows-on g size w (run g w A.events) (run-follows g w A.events) c K in
-          let S = round-rests g size small (run g w A.events) c L (record { choices = []; session = v.session } ∷ vs) t (refl, n) (subst (λ ss. IsHonestWire g ss (record { choices = []; session = v.session } ∷ vs)) (sym A.sites) h) m in
+          let S = round-rests g size small (run g w A.events) c L (record { choices = []; session = v.session } ∷ vs) t (refl, n)
+          (subst (λ ss. IsHonestWire g ss (record { choices = []; session = v.session } ∷ vs)) (sym A.sites) h) m in
           record {
-            ran = ran-append g w (choice_frames g v) A (session_frames v ++ visit_frames g vs) (record { events = []; ok = tt; read = subst (λ hs. ReadAs g (run g w A.events) hs []) (sym S.silent) tt; sites = sym S.sites });
+            ran = ran-append g w (choice_frames g v) A (session_frames v ++ visit_frames g vs)
+                (record { events = []; ok = tt; read = subst (λ hs. ReadAs g (run g w A.events) hs []) (sym S.silent) tt; sites = sym S.sites });
             quiet = subst IsQuiet (sym (run_both g w A.events [])) (is-quiet (run g w A.events) U c L
                 (λ r l. of-round (IsStill (run g w A.events) c) (record { choices = []; session = v.session } ∷ vs) 0 g.roles o S.still r (omega arith) (omega arith)));
           }
@@ -126,11 +135,14 @@ module _ (g : Grammar) where
           × ((world_after g loads (es ++ fs)).sites ≡ sites_after g (world_after g loads es).sites (visit_frames g (flat rounds ++ last))) × IsQuiet (world_after g loads (es ++ fs))
       quiet_means_quiet es k rounds last C ok n h =
           let R : IsReached g G loads (world_after g loads es) = record { events = es; ok = k; is = refl } in
-          let t = turns-append (new_courier g) (map session_of (flat rounds)) (map session_of last) (subst (λ ss. AreTurns size g (new_courier g) (ss ++ map session_of last)) (flat-map session_of rounds) C.turns) in
+          let t = turns-append (new_courier g) (map session_of (flat rounds)) (map session_of last)
+          (subst (λ ss. AreTurns size g (new_courier g) (ss ++ map session_of last)) (flat-map session_of rounds) C.turns) in
           let q = honest-append (world_after g loads es).sites (flat rounds) last h in
-          let A = visits-go g size G loads (world_after g loads es) R (new_courier g) (knows-start g size (world_after g loads es)) (flat rounds) t.0 (each_left (ChoicesOk g) (flat rounds) last ok) (rounds-known g rounds C.each) q.0 in
+          let A = visits-go g size G loads (world_after g loads es) R (new_courier g) (knows-start g size (world_after g loads es)) (flat rounds) t.0
+          (each_left (ChoicesOk g) (flat rounds) last ok) (rounds-known g rounds C.each) q.0 in
           let V = reached-run g G loads (world_after g loads es) R A.ran.events A.ran.ok in
-          let B = last-quiet (run g (world_after g loads es) A.ran.events) V (after_all (new_courier g) (map session_of (flat rounds))) A.knows last C.one t.1 (each_right (ChoicesOk g) (flat rounds) last ok) n
+          let B = last-quiet (run g (world_after g loads es) A.ran.events) V (after_all (new_courier g) (map session_of (flat rounds))) A.knows last
+          C.one t.1 (each_right (ChoicesOk g) (flat rounds) last ok) n
           (subst (λ ss. IsHonestWire g ss last) (sym A.ran.sites) q.1) C.still in
           let Z = subst (Ended_quiet (world_after g loads es)) (sym (frames-append (flat rounds) last)) (record {
             ran = ran-append g (world_after g loads es) (visit_frames g (flat rounds)) A.ran (visit_frames g last) B.ran;

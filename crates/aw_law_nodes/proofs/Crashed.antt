@@ -15,7 +15,9 @@ use Rattle.aw_law_sites.specs.Sites.{Reaction}
 use Rattle.aw_law_sites.specs.Worlds.{node_of, Move, Chooses, Delivers}
 use Rattle.aw_law_worlds.specs.Laws.{MayCome}
 use Rattle.aw_law_worlds.proofs.Places.{length-set}
-use Rattle.aw_law_nodes.specs.Crashes.{Kept, Posted, Frail, new_kept, kept_at, start_at, kept_after, posts_of, happen, chosen_frail, reaction_of, with_delivery, delivered_frail, frail_step, is_dropped, go_back, MayGoBack, FrailEvent, Happens, GoesBack, frail_run, AreAllowed}
+use Rattle.aw_law_nodes.specs.Crashes.{Kept, Posted, Frail, new_kept, kept_at, start_at, kept_after, posts_of, happen, chosen_frail, reaction_of}
+use Rattle.aw_law_nodes.specs.Crashes.{with_delivery, delivered_frail, frail_step, is_dropped, go_back, MayGoBack, FrailEvent, Happens, GoesBack}
+use Rattle.aw_law_nodes.specs.Crashes.{frail_run, AreAllowed}
 use Rattle.aw_law_nodes.proofs.ListParts.{nil-left, set-same}
 use Rattle.aw_law_nodes.proofs.GoingBack.{back-all, chosen-back, delivered-back}
 use Rattle.aw_law_nodes.proofs.OwnEvents.{empty-size, plain_run, plain-append, Replays, Own, step-own, start-kept, start-own}
@@ -33,13 +35,15 @@ set-members (x ∷ xs) (suc k) p v q e (inl m) = inl (inl m)
 set-members (x ∷ xs) (suc k) p v q e (inr m) = elim (set-members xs k p v q e m) [ inl i ↦ inl (inr i) | inr i ↦ inr i ]
 
 -- who may go back after an event might before it
-happen-before : (w : Frail) (r n a : ℕ) (h : SiteEvent) (o : Option Reaction) (ps : List Posted) → MayGoBack r n (happen w a h o ps) → (r < length w.kept) × ((p : Posted) → Member p ps → is_dropped r n p.from p.event ≡ true → p.deliveries ≡ [])
+happen-before : (w : Frail) (r n a : ℕ) (h : SiteEvent) (o : Option Reaction) (ps : List Posted) → MayGoBack r n (happen w a h o ps) →
+    (r < length w.kept) × ((p : Posted) → Member p ps → is_dropped r n p.from p.event ≡ true → p.deliveries ≡ [])
 happen-before w r n a h o ps (l, f) =
     let z = length-set w.kept a (kept_after (kept_at w a) h o) in
     (omega (arith, z, l), λ p m d. f p (member_left p ps (posts_of a (length (kept_at w a).events) o) m) d)
 
 -- a message that is just delivered is not dropped
-not-dropped : (w : Frail) (r n a : ℕ) (h : SiteEvent) (o : Option Reaction) (k c : ℕ) (p : Posted) → slice_get w.posted k ≡ Some p → MayGoBack r n (happen w a h o (slice_set w.posted k (with_delivery c p))) → is_dropped r n p.from p.event ≡ false
+not-dropped : (w : Frail) (r n a : ℕ) (h : SiteEvent) (o : Option Reaction) (k c : ℕ) (p : Posted) → slice_get w.posted k ≡ Some p →
+    MayGoBack r n (happen w a h o (slice_set w.posted k (with_delivery c p))) → is_dropped r n p.from p.event ≡ false
 not-dropped w r n a h o k c p e M = go (is_dropped r n p.from p.event) refl
   where
     go : (b : Bool) → is_dropped r n p.from p.event ≡ b → is_dropped r n p.from p.event ≡ false
@@ -54,7 +58,8 @@ module _ (g : Grammar) where
   delivered-before : (w : Frail) (r n k : ℕ) (o : Option Posted) → slice_get w.posted k ≡ o → MayGoBack r n (delivered_frail g w k o) → MayGoBack r n w
   delivered-before w r n k None e M = M
   delivered-before w r n k (Some p) e M =
-      let z = happen-before w r n p.message.to (Got p.message) (reaction_of (receive g (kept_at w p.message.to).site p.message)) (slice_set w.posted k (with_delivery (length (kept_at w p.message.to).events) p)) M in
+      let z = happen-before w r n p.message.to (Got p.message) (reaction_of (receive g (kept_at w p.message.to).site p.message))
+      (slice_set w.posted k (with_delivery (length (kept_at w p.message.to).events) p)) M in
       let f = not-dropped w r n p.message.to (Got p.message) (reaction_of (receive g (kept_at w p.message.to).site p.message)) k (length (kept_at w p.message.to).events) p e M in (
         z.0,
         λ q m d. elim (set-members w.posted k p (with_delivery (length (kept_at w p.message.to).events) p) q e m) [
@@ -73,7 +78,8 @@ module _ (g : Grammar) where
 
   module _ (loads : Bool) where
     -- going back and one event
-    deliver-back : (w : Frail) (r n k : ℕ) (o : Option Posted) → slice_get w.posted k ≡ o → Own g loads w → MayGoBack r n (delivered_frail g w k o) → Replays g (go_back g loads r n w) (go_back g loads r n (delivered_frail g w k o))
+    deliver-back : (w : Frail) (r n k : ℕ) (o : Option Posted) → slice_get w.posted k ≡ o → Own g loads w → MayGoBack r n (delivered_frail g w k o) →
+        Replays g (go_back g loads r n w) (go_back g loads r n (delivered_frail g w k o))
     deliver-back w r n k None e own M = ([], tt, refl)
     deliver-back w r n k (Some p) e own M =
         delivered-back g loads w r n k p e own (delivered-before w r n k (Some p) e M).0
@@ -83,7 +89,8 @@ module _ (g : Grammar) where
     step-back w r n (Chooses c) ok p M = chosen-back g loads w r n c (home g (node_of c)) refl ok p (step-before w r n (Chooses c) M).0 (choose g (kept_at w (home g (node_of c))).site c) refl
     step-back w r n (Delivers k) ok p M = deliver-back w r n k (slice_get w.posted k) refl p M
 
-    run-back : (w : Frail) (r n : ℕ) (es : List Move) → Each (MayCome g) es → Own g loads w → MayGoBack r n (plain_run g w es) → Replays g (go_back g loads r n w) (go_back g loads r n (plain_run g w es))
+    run-back : (w : Frail) (r n : ℕ) (es : List Move) → Each (MayCome g) es → Own g loads w → MayGoBack r n (plain_run g w es) →
+        Replays g (go_back g loads r n w) (go_back g loads r n (plain_run g w es))
     run-back w r n [] k p M = ([], tt, refl)
     run-back w r n (e ∷ es) k p M =
         let (fs, a, q) = step-back w r n e k.0 p (run-before (frail_step g w e) r n es M) in
@@ -99,7 +106,8 @@ module _ (g : Grammar) where
         λ i. record (start_at g loads) { kept = (ap (λ (k : Kept). slice_set (start_at g loads).kept r k) e ∙ set-same (new_kept false r) (start_at g loads).kept r) i }
 
     -- each world with crashes is one without
-    pub without : (fs : List Move) → Each (MayCome g) fs → (es : List FrailEvent) → AreAllowed g loads (plain_run g (start_at g loads) fs) es → Replays g (start_at g loads) (frail_run g loads (plain_run g (start_at g loads) fs) es)
+    pub without : (fs : List Move) → Each (MayCome g) fs → (es : List FrailEvent) → AreAllowed g loads (plain_run g (start_at g loads) fs) es →
+        Replays g (start_at g loads) (frail_run g loads (plain_run g (start_at g loads) fs) es)
     without fs k [] h = (fs, k, refl)
     without fs k (Happens e ∷ es) h =
         let q = plain-append g (start_at g loads) fs (e ∷ []) in

@@ -40,7 +40,8 @@ back-fresh r n a k [] e = refl
 back-fresh r n a k (m ∷ ms) e = go (is_dropped r n a k) e (back-fresh r n a k ms e)
   where
     go : (b : Bool) → b ≡ false → back_posted r n (map (posting a k) ms) ≡ map (posting a k) ms
-        → map (back_post r n) (cond (not b) (posting a k m ∷ filter (λ (p : Posted). not (is_dropped r n p.from p.event)) (map (posting a k) ms)) (filter (λ (p : Posted). not (is_dropped r n p.from p.event)) (map (posting a k) ms))) ≡ posting a k m ∷ map (posting a k) ms
+        → map (back_post r n) (cond (not b) (posting a k m ∷ filter (λ (p : Posted). not (is_dropped r n p.from p.event)) (map (posting a k) ms))
+        (filter (λ (p : Posted). not (is_dropped r n p.from p.event)) (map (posting a k) ms))) ≡ posting a k m ∷ map (posting a k) ms
     go true e i = absurd cc
     go false e i = ap (◌∷◌ (posting a k m)) i
 
@@ -49,12 +50,15 @@ back-dropped r n a k [] e = refl
 back-dropped r n a k (m ∷ ms) e = go (is_dropped r n a k) e (back-dropped r n a k ms e)
   where
     go : (b : Bool) → b ≡ true → back_posted r n (map (posting a k) ms) ≡ []
-        → map (back_post r n) (cond (not b) (posting a k m ∷ filter (λ (p : Posted). not (is_dropped r n p.from p.event)) (map (posting a k) ms)) (filter (λ (p : Posted). not (is_dropped r n p.from p.event)) (map (posting a k) ms))) ≡ []
+        → map (back_post r n) (cond (not b) (posting a k m ∷ filter (λ (p : Posted). not (is_dropped r n p.from p.event)) (map (posting a k) ms))
+        (filter (λ (p : Posted). not (is_dropped r n p.from p.event)) (map (posting a k) ms))) ≡ []
     go true e i = i
     go false e i = absurd cc
 
 pub back-append : (r n : ℕ) (ps qs : List Posted) → back_posted r n (ps ++ qs) ≡ back_posted r n ps ++ back_posted r n qs
-back-append r n ps qs = ap (map (back_post r n)) (filter-append (λ (p : Posted). not (is_dropped r n p.from p.event)) ps qs) ∙ map-append (back_post r n) (filter (λ (p : Posted). not (is_dropped r n p.from p.event)) ps) (filter (λ (p : Posted). not (is_dropped r n p.from p.event)) qs)
+back-append r n ps qs = ap (map (back_post r n)) (filter-append (λ (p : Posted). not (is_dropped r n p.from p.event)) ps qs)
+    ∙ map-append (back_post r n) (filter (λ (p : Posted). not (is_dropped r n p.from p.event)) ps)
+    (filter (λ (p : Posted). not (is_dropped r n p.from p.event)) qs)
 
 pub back-sent : (r n a k : ℕ) (o : Option Reaction) → is_dropped r n a k ≡ false → back_posted r n (posts_of a k o) ≡ posts_of a k o
 back-sent r n a k None e = refl
@@ -73,14 +77,17 @@ past-dropped r n e f = ap (λ b. cond (not b) (e ∷ []) []) f
 
 -- a message that stays in the list, and one that leaves it
 cons-stays : (r n : ℕ) (q : Posted) (ps : List Posted) → is_dropped r n q.from q.event ≡ false → back_posted r n (q ∷ ps) ≡ back_post r n q ∷ back_posted r n ps
-cons-stays r n q ps e = ap (λ b. map (back_post r n) (cond (not b) (q ∷ filter (λ (p : Posted). not (is_dropped r n p.from p.event)) ps) (filter (λ (p : Posted). not (is_dropped r n p.from p.event)) ps))) e
+cons-stays r n q ps e = ap (λ b. map (back_post r n) (cond (not b) (q ∷ filter (λ (p : Posted). not (is_dropped r n p.from p.event)) ps)
+    (filter (λ (p : Posted). not (is_dropped r n p.from p.event)) ps))) e
 
 cons-goes : (r n : ℕ) (q : Posted) (ps : List Posted) → is_dropped r n q.from q.event ≡ true → back_posted r n (q ∷ ps) ≡ back_posted r n ps
-cons-goes r n q ps e = ap (λ b. map (back_post r n) (cond (not b) (q ∷ filter (λ (p : Posted). not (is_dropped r n p.from p.event)) ps) (filter (λ (p : Posted). not (is_dropped r n p.from p.event)) ps))) e
+cons-goes r n q ps e = ap (λ b. map (back_post r n) (cond (not b) (q ∷ filter (λ (p : Posted). not (is_dropped r n p.from p.event)) ps)
+    (filter (λ (p : Posted). not (is_dropped r n p.from p.event)) ps))) e
 
 -- message k is at place j of those that stay, also with one more delivery
 abbrev pub IsPlace : ℕ → ℕ → List Posted → ℕ → Posted → ℕ → ℕ → Type 0
-IsPlace r n ps k p c j = (slice_get (back_posted r n ps) j ≡ Some (back_post r n p)) × (back_posted r n (slice_set ps k (with_delivery c p)) ≡ slice_set (back_posted r n ps) j (back_post r n (with_delivery c p)))
+IsPlace r n ps k p c j = (slice_get (back_posted r n ps) j ≡ Some (back_post r n p))
+    × (back_posted r n (slice_set ps k (with_delivery c p)) ≡ slice_set (back_posted r n ps) j (back_post r n (with_delivery c p)))
 
 pub place : (r n : ℕ) (ps : List Posted) (k : ℕ) (p : Posted) (c : ℕ) → slice_get ps k ≡ Some p → is_dropped r n p.from p.event ≡ false → (j : ℕ) × IsPlace r n ps k p c j
 place r n [] k p c e f = absurd cc

@@ -233,7 +233,8 @@ module _ (g : Grammar) where
   ask-as : (to : ℕ) (r : Ref) (from : ℕ) → to < 2 ^ 16 → from < 2 ^ 16 → RefSized r × RefInRange r → IsEncodable g (record { to = to; kind = Asks r from })
   ask-as to r from few l k = (record { to = to; kind = kind.Ask r from }, refl, (few, (k.0, l)), k.1)
 
-  tell-as : (to : ℕ) (e : Equation) (load : List Equation) → to < 2 ^ 16 → EquationSized e → EquationInRange e → LoadSized load → LoadInRange load → IsEncodable g (record { to = to; kind = Tells e load })
+  tell-as : (to : ℕ) (e : Equation) (load : List Equation) → to < 2 ^ 16 → EquationSized e → EquationInRange e → LoadSized load → LoadInRange load →
+      IsEncodable g (record { to = to; kind = Tells e load })
   tell-as to e load few es er a b =
       let (q, p) = equation-as e er in
       let (qs, ps) = equations-as load b.1 in

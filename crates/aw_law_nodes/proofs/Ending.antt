@@ -18,7 +18,9 @@ use Rattle.aw_law_sites.specs.Worlds.{World, site_at, received_at, deliver_on, M
 use Rattle.aw_law_worlds.specs.Invariant.{sender}
 use Rattle.aw_law_worlds.specs.Laws.{MayCome, MessagesAreBounded, world_after}
 use Rattle.aw_law_worlds.proofs.Lists.{length-mapped}
-use Rattle.aw_law_nodes.specs.Couriers.{Heard, Session, Courier, new_courier, after_session, AreReplies, AreTurns, round_moves, after_all, flat, IsSpentCall, Visit, choice_frame, asked_at, choice_frames, session_frames, visit_frames, IsHonestWire, session_of, NoChoice, ChoicesOk, HasRole}
+use Rattle.aw_law_nodes.specs.Couriers.{Heard, Session, Courier, new_courier, after_session, AreReplies, AreTurns, round_moves, after_all, flat}
+use Rattle.aw_law_nodes.specs.Couriers.{IsSpentCall, Visit, choice_frame, asked_at, choice_frames, session_frames, visit_frames, IsHonestWire}
+use Rattle.aw_law_nodes.specs.Couriers.{session_of, NoChoice, ChoicesOk, HasRole}
 use Rattle.aw_law_nodes.specs.Nodes.{Frame, Push, Choose, Pull, Listed, happenings, ReadAs, sent_by}
 use Rattle.aw_law_nodes.proofs.Balance.{total, turns-balance, moving-count}
 use Rattle.aw_law_nodes.proofs.Mail.{Given}
@@ -123,7 +125,8 @@ module _ (g : Grammar) where
     visits-got c (v ∷ vs) n t =
         let no : choice_frames g v ≡ [] = ap (map (choice_frame g)) n.0 in
         subst (Each IsGot) (sym (ap (λ as_. happenings (as_ ++ (session_frames v ++ visit_frames g vs))) no ∙ happenings-append (session_frames v) (visit_frames g vs)))
-        (each_append IsGot (happenings (session_frames v)) (happenings (visit_frames g vs)) (frames-got v.session.role v.session.asked v.session.heard t.1) (visits-got (after_session c v.session) vs n.1 t.2))
+        (each_append IsGot (happenings (session_frames v)) (happenings (visit_frames g vs)) (frames-got v.session.role v.session.asked v.session.heard
+        t.1) (visits-got (after_session c v.session) vs n.1 t.2))
 
     module _ (G : Given g) (loads : Bool) (few : MessagesAreBounded g) where
       -- what was pulled in a world is within the bound of its choices

@@ -32,11 +32,13 @@ got-sites w k to (Conflict a b) = sym (set-same (empty_site false to) w.sites to
 got-sites w k to NotMine = sym (set-same (empty_site false to) w.sites to)
 got-sites w k to BadName = sym (set-same (empty_site false to) w.sites to)
 
-pub delivered-sites : (g : Grammar) (w : World) (k : ℕ) (m : Message) (o : Option Message) → o ≡ Some m → (deliver_on g w k o).world.sites ≡ slice_set w.sites m.to (received (site_at w m.to) (receive g (site_at w m.to) m)).site
+pub delivered-sites : (g : Grammar) (w : World) (k : ℕ) (m : Message) (o : Option Message) → o ≡ Some m → (deliver_on g w k o).world.sites ≡ slice_set
+    w.sites m.to (received (site_at w m.to) (receive g (site_at w m.to) m)).site
 delivered-sites g w k m None e = absurd cc
 delivered-sites g w k m (Some n) e =
     let p : n ≡ m = cc in
-    subst (λ (m : Message). (deliver_on g w k (Some n)).world.sites ≡ slice_set w.sites m.to (received (site_at w m.to) (receive g (site_at w m.to) m)).site) p (got-sites w k n.to (receive g (site_at w n.to) n))
+    subst (λ (m : Message). (deliver_on g w k (Some n)).world.sites ≡ slice_set w.sites m.to
+    (received (site_at w m.to) (receive g (site_at w m.to) m)).site) p (got-sites w k n.to (receive g (site_at w n.to) n))
 
 -- a later world: what was sent, delivered or put into an outbox is still there
 pub record Follows (w v : World) : Type 0 where
@@ -76,7 +78,8 @@ receive-boxes g s m y e =
     subst (λ (y : Reaction). y.site.outbox ≡ s.outbox ++ y.sent) (new-of (clash s m.kind) (is_repeat s m.kind) (react g s m.kind) y b) (react-boxes g s m.kind)
 
 -- the site of a role after one site changed
-pub with-boxes : (w : World) (r : ℕ) (x : Reaction) → x.site.outbox ≡ (site_at w r).outbox ++ x.sent → (a p : ℕ) (m : Message) → slice_get (site_at w a).outbox p ≡ Some m → slice_get (site_at (with_site w r x) a).outbox p ≡ Some m
+pub with-boxes : (w : World) (r : ℕ) (x : Reaction) → x.site.outbox ≡ (site_at w r).outbox ++ x.sent → (a p : ℕ) (m : Message) →
+    slice_get (site_at w a).outbox p ≡ Some m → slice_get (site_at (with_site w r x) a).outbox p ≡ Some m
 with-boxes w r x q a p m e =
     elim (same_or_not r a) [
       | inr n ↦ subst (λ (s : Site). slice_get s.outbox p ≡ Some m) (sym (get-set_other (empty_site false a) w.sites r a x.site n)) e

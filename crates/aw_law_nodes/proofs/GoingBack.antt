@@ -14,7 +14,8 @@ use Rattle.aw_law_sites.specs.Sites.{Reaction, empty_site}
 use Rattle.aw_law_sites.specs.Worlds.{node_of, Chooses, Delivers}
 use Rattle.aw_law_worlds.specs.Laws.{MayCome}
 use Rattle.aw_law_worlds.proofs.Places.{get-set, get-set_other, same_or_not}
-use Rattle.aw_law_nodes.specs.Crashes.{Kept, Posted, Past, Frail, new_kept, kept_at, kept_after, posts_of, happen, chosen_frail, reaction_of, with_delivery, delivered_frail, frail_step, is_dropped, back_kept, back_post, back_posted, back_past, go_back}
+use Rattle.aw_law_nodes.specs.Crashes.{Kept, Posted, Past, Frail, new_kept, kept_at, kept_after, posts_of, happen, chosen_frail, reaction_of}
+use Rattle.aw_law_nodes.specs.Crashes.{with_delivery, delivered_frail, frail_step, is_dropped, back_kept, back_post, back_posted, back_past, go_back}
 use Rattle.aw_law_nodes.proofs.ListParts.{set-set, set-swap, set-get, filter-append}
 use Rattle.aw_law_nodes.proofs.Dropped.{drop-other, drop-early, drop-late, back-append, back-sent, back-none, past-kept, past-dropped, place, noted-stays, noted-goes}
 use Rattle.aw_law_nodes.proofs.OwnEvents.{Reacts, chosen-reacts, got-reacts, Replays, IsOwn, Own, own-after}
@@ -66,7 +67,9 @@ module _ (g : Grammar) (loads : Bool) where
           posted = (ap (λ (k : Kept). back_posted r n ps ++ posts_of a (length k.events) o) same
               ∙ (ap (λ qs. back_posted r n ps ++ qs) (sym (back-sent r n a (length (kept_at w a).events) o drops)) ∙ sym (back-append r n ps (posts_of a (length (kept_at w a).events) o)))) i;
           past = (ap (λ (k : Kept). back_past r n w.past ++ record { role = a; before = length k.events; happening = h } ∷ []) same
-              ∙ (ap (λ es. back_past r n w.past ++ es) (sym (past-kept r n (record { role = a; before = length (kept_at w a).events; happening = h }) drops)) ∙ sym (filter-append (λ (e : Past). not (is_dropped r n e.role e.before)) w.past (record { role = a; before = length (kept_at w a).events; happening = h } ∷ [])))) i;
+              ∙ (ap (λ es. back_past r n w.past ++ es) (sym (past-kept r n (record { role = a; before = length (kept_at w a).events; happening = h })
+              drops)) ∙ sym (filter-append (λ (e : Past). not (is_dropped r n e.role e.before)) w.past
+              (record { role = a; before = length (kept_at w a).events; happening = h } ∷ [])))) i;
         },
       )
     where
@@ -85,7 +88,9 @@ module _ (g : Grammar) (loads : Bool) where
       sites (inl f) =
           set-swap w.kept r a (back_kept g loads r n (kept_at w r)) (kept_after (kept_at w a) h o) (λ e. f (sym e))
           ∙ ap (λ (k : Kept). slice_set (slice_set w.kept a (kept_after (kept_at w a) h o)) r (back_kept g loads r n k)) (sym (other f))
-      sites (inr m) = subst (λ a. (Reacts g (kept_at w a).site h o) → slice_set (slice_set w.kept r (back_kept g loads r n (kept_at w r))) a (kept_after (kept_at w a) h o) ≡ slice_set (slice_set w.kept a (kept_after (kept_at w a) h o)) r (back_kept g loads r n (kept_at (happen w a h o ps) r)))
+      sites (inr m) = subst (λ a. (Reacts g (kept_at w a).site h o) → slice_set (slice_set w.kept r (back_kept g loads r n (kept_at w r))) a
+          (kept_after (kept_at w a) h o) ≡ slice_set (slice_set w.kept a (kept_after (kept_at w a) h o)) r
+          (back_kept g loads r n (kept_at (happen w a h o ps) r)))
           (sym m.0)
           (λ e. set-set w.kept r (back_kept g loads r n (kept_at w r)) (kept_after (kept_at w r) h o)
           ∙ (sym (set-set w.kept r (kept_after (kept_at w r) h o) (kept_after (kept_at w r) h o))
@@ -102,13 +107,15 @@ module _ (g : Grammar) (loads : Bool) where
       λ i. record {
         kept = (set-set w.kept r (kept_after (kept_at w r) h o) (back_kept g loads r n (kept_at (happen w r h o ps) r))
             ∙ ap (λ (k : Kept). slice_set w.kept r k) (ap (back_kept g loads r n) (get-set (new_kept false r) w.kept r (kept_after (kept_at w r) h o) l) ∙ back-after r n (kept_at w r) h o m)) i;
-        posted = (back-append r n ps (posts_of r (length (kept_at w r).events) o) ∙ (ap (λ qs. back_posted r n ps ++ qs) (back-none r n r (length (kept_at w r).events) o late) ∙ append-nil (back_posted r n ps))) i;
+        posted = (back-append r n ps (posts_of r (length (kept_at w r).events) o)
+            ∙ (ap (λ qs. back_posted r n ps ++ qs) (back-none r n r (length (kept_at w r).events) o late) ∙ append-nil (back_posted r n ps))) i;
         past = (filter-append (λ (e : Past). not (is_dropped r n e.role e.before)) w.past (record { role = r; before = length (kept_at w r).events; happening = h } ∷ [])
             ∙ (ap (λ es. back_past r n w.past ++ es) (past-dropped r n (record { role = r; before = length (kept_at w r).events; happening = h }) late) ∙ append-nil (back_past r n w.past))) i;
       }
 
   -- behind a choice: it is made after going back as well, or it is dropped
-  pub chosen-back : (w : Frail) (r n : ℕ) (c : Choice) (a : ℕ) → home g (node_of c) ≡ a → MayCome g (Chooses c) → Own g loads w → r < length w.kept → (z : Chosen) → choose g (kept_at w a).site c ≡ z → Replays g (go_back g loads r n w) (go_back g loads r n (chosen_frail w a c z))
+  pub chosen-back : (w : Frail) (r n : ℕ) (c : Choice) (a : ℕ) → home g (node_of c) ≡ a → MayCome g (Chooses c) → Own g loads w → r < length w.kept →
+      (z : Chosen) → choose g (kept_at w a).site c ≡ z → Replays g (go_back g loads r n w) (go_back g loads r n (chosen_frail w a c z))
   chosen-back w r n c a q ok p l (No b) e = ([], tt, refl)
   chosen-back w r n c a q ok p l (Did x) e = go (early_or_late w r n a)
     where
@@ -132,11 +139,14 @@ module _ (g : Grammar) (loads : Bool) where
       go : IsEarly w r n p.message.to ⊎ ((p.message.to ≡ r) × (n ≤ length (kept_at w r).events)) → Replays g (go_back g loads r n w) (go_back g loads r n (delivered_frail g w k (Some p)))
       go (inl early) =
           let (j, u) = place r n w.posted k p (length (kept_at w p.message.to).events) e f in
-          let z = back-stays w r n p.message.to (Got p.message) (reaction_of (receive g (kept_at w p.message.to).site p.message)) (slice_set w.posted k (with_delivery (length (kept_at w p.message.to).events) p)) own l (got-reacts g (kept_at w p.message.to).site p.message (receive g (kept_at w p.message.to).site p.message) refl) early in (
+          let z = back-stays w r n p.message.to (Got p.message) (reaction_of (receive g (kept_at w p.message.to).site p.message))
+          (slice_set w.posted k (with_delivery (length (kept_at w p.message.to).events) p)) own l
+          (got-reacts g (kept_at w p.message.to).site p.message (receive g (kept_at w p.message.to).site p.message) refl) early in (
             Delivers j ∷ [],
             (tt, tt),
             ap (delivered_frail g (go_back g loads r n w) j) u.0
-                ∙ (ap (λ (K : Kept). happen (go_back g loads r n w) p.message.to (Got p.message) (reaction_of (receive g K.site p.message)) (slice_set (back_posted r n w.posted) j (with_delivery (length K.events) (back_post r n p)))) z.0
+                ∙ (ap (λ (K : Kept). happen (go_back g loads r n w) p.message.to (Got p.message) (reaction_of (receive g K.site p.message))
+                (slice_set (back_posted r n w.posted) j (with_delivery (length K.events) (back_post r n p)))) z.0
                 ∙ (ap (λ ps. happen (go_back g loads r n w) p.message.to (Got p.message) (reaction_of (receive g (kept_at w p.message.to).site p.message)) ps)
                 (ap (λ (q : Posted). slice_set (back_posted r n w.posted) j q) (sym (noted-stays r n (length (kept_at w p.message.to).events) p (early-drops w r n p.message.to early))) ∙ sym u.1)
                 ∙ z.1)),
@@ -144,11 +154,13 @@ module _ (g : Grammar) (loads : Bool) where
       go (inr (h, late)) =
           let (j, u) = place r n w.posted k p (length (kept_at w r).events) e f in
           let same : back_posted r n (slice_set w.posted k (with_delivery (length (kept_at w r).events) p)) ≡ back_posted r n w.posted =
-          u.1 ∙ (ap (λ (q : Posted). slice_set (back_posted r n w.posted) j q) (noted-goes r n (length (kept_at w r).events) p (subst (λ a. is_dropped r n a (length (kept_at w r).events) ≡ true) (sym h) (drop-late r n (length (kept_at w r).events) late)))
+          u.1 ∙ (ap (λ (q : Posted). slice_set (back_posted r n w.posted) j q) (noted-goes r n (length (kept_at w r).events) p
+          (subst (λ a. is_dropped r n a (length (kept_at w r).events) ≡ true) (sym h) (drop-late r n (length (kept_at w r).events) late)))
           ∙ set-get (back_posted r n w.posted) j (back_post r n p) u.0) in (
             [],
             tt,
-            subst (λ a. go_back g loads r n w ≡ go_back g loads r n (happen w a (Got p.message) (reaction_of (receive g (kept_at w a).site p.message)) (slice_set w.posted k (with_delivery (length (kept_at w a).events) p)))) (sym h)
+            subst (λ a. go_back g loads r n w ≡ go_back g loads r n (happen w a (Got p.message) (reaction_of (receive g (kept_at w a).site p.message))
+                (slice_set w.posted k (with_delivery (length (kept_at w a).events) p)))) (sym h)
                 (sym (back-goes w r n (Got p.message) (reaction_of (receive g (kept_at w r).site p.message)) (slice_set w.posted k (with_delivery (length (kept_at w r).events) p)) l late
                 ∙ ap (λ ps. record (go_back g loads r n w) { posted = ps }) same)),
           )

@@ -17,7 +17,9 @@ use Rattle.aw_law_sites.specs.Worlds.{World, site_at, Move, Chooses, Delivers, s
 use Rattle.aw_law_worlds.specs.Laws.{MayCome, world_after}
 use Rattle.aw_law_worlds.proofs.Lists.{Member-filtered}
 use Rattle.aw_law_worlds.proofs.Places.{member-get}
-use Rattle.aw_law_nodes.specs.Couriers.{Heard, Gave, NoMore, Pushed, hear, Session, Courier, new_courier, for_role, turn_room, turn_messages, asks, after_reply, behind, pulls, pushes, requests, after_session, AreTurns, Visit, choice_frame, asked_at, choice_frames, session_frames, IsHonestWire, session_of, ChoicesOk, HasRole}
+use Rattle.aw_law_nodes.specs.Couriers.{Heard, Gave, NoMore, Pushed, hear, Session, Courier, new_courier, for_role, turn_room, turn_messages, asks}
+use Rattle.aw_law_nodes.specs.Couriers.{after_reply, behind, pulls, pushes, requests, after_session, AreTurns, Visit, choice_frame, asked_at}
+use Rattle.aw_law_nodes.specs.Couriers.{choice_frames, session_frames, IsHonestWire, session_of, ChoicesOk, HasRole}
 use Rattle.aw_law_nodes.specs.Encodable.{IsEncodable, MessagesAreEncodable, BytesAreHonest, HasBytes, PushHasBytes, PushesHaveBytes, IsHonestInBytes}
 use Rattle.aw_law_nodes.specs.Nodes.{Frame, Push, Pull, Sends, received, at_place, sites_after, all_replies, happenings, ReadAs}
 use Rattle.aw_law_nodes.specs.Sizes.{MoveSized, ChoicesSized}
@@ -73,7 +75,8 @@ pulls-asked g size (x ∷ xs) room left p =
 pushes-asked : (g : Grammar) (size : Frame → ℕ) (ms : List Message) (room p : ℕ) (xs : List Heard) → ((m : Message) → Member m ms → IsEncodable g m) → Each (PushHasBytes g) (pushes size room ms p xs)
 pushes-asked g size [] room p xs f = pulls-asked g size xs room turn_messages p
 pushes-asked g size (m ∷ ms) room p xs f =
-    asks-bytes g (nat_le (size (Push m)) room) (Push m) (pushes size (room - size (Push m)) ms p (behind xs)) (f m (inl refl)) (pushes-asked g size ms (room - size (Push m)) p (behind xs) (λ n i. f n (inr i)))
+    asks-bytes g (nat_le (size (Push m)) room) (Push m) (pushes size (room - size (Push m)) ms p (behind xs)) (f m (inl refl))
+    (pushes-asked g size ms (room - size (Push m)) p (behind xs) (λ n i. f n (inr i)))
 
 -- ---- the replies
 
@@ -85,7 +88,8 @@ place-bytes : (g : Grammar) (n : ℕ) (o : Option Message) → ((m : Message) �
 place-bytes g n None f = tt
 place-bytes g n (Some m) f = f m refl
 
-module _ (g : Grammar) (G : Given g) (loads : Bool) (law : (es : List Move) → Each (MayCome g) es → Each MoveSized es → (m : Message) → Member m (world_after g loads es).messages → HasBytes g (Sends m)) where
+module _ (g : Grammar) (G : Given g) (loads : Bool) (law : (es : List Move) → Each (MayCome g) es → Each MoveSized es → (m : Message) →
+    Member m (world_after g loads es).messages → HasBytes g (Sends m)) where
   -- a world that such events lead to
   record IsSized (w : World) : Type 0 where
     reached : IsReached g G loads w
@@ -100,7 +104,8 @@ module _ (g : Grammar) (G : Given g) (loads : Bool) (law : (es : List Move) → 
 
   module _ (size : Frame → ℕ) where
     -- one pull, and the rest of the turn
-    pull-bytes : (w : World) → IsSized w → (r p : ℕ) (rest : List Frame) → Each (HasBytes g) (all_replies g w.sites (map (asked_at r) rest)) → Each (HasBytes g) (all_replies g w.sites (map (asked_at r) (Pull p ∷ rest)))
+    pull-bytes : (w : World) → IsSized w → (r p : ℕ) (rest : List Frame) → Each (HasBytes g) (all_replies g w.sites (map (asked_at r) rest)) →
+        Each (HasBytes g) (all_replies g w.sites (map (asked_at r) (Pull p ∷ rest)))
     pull-bytes w R r p rest k =
         let M = reached-mail g G loads w R.reached in (
           place-bytes g (length (site_at w r).outbox) (slice_get (site_at w r).outbox p) (λ m e. sent-bytes w R m (M.boxes r m (member_got (site_at w r).outbox p m e)).0),
@@ -154,7 +159,8 @@ module _ (g : Grammar) (G : Given g) (loads : Bool) (law : (es : List Move) → 
         go true k = k
         go false k = tt
 
-    session-bytes : (w : World) → IsSized w → (c : Courier) → Knows g size w c → (s : Session) → s.asked ≡ requests size c s.role s.heard → Each (HasBytes g) (all_replies g w.sites (map (asked_at s.role) s.asked))
+    session-bytes : (w : World) → IsSized w → (c : Courier) → Knows g size w c → (s : Session) → s.asked ≡ requests size c s.role s.heard →
+        Each (HasBytes g) (all_replies g w.sites (map (asked_at s.role) s.asked))
     session-bytes w R c K s q =
         subst (λ fs. Each (HasBytes g) (all_replies g w.sites (map (asked_at s.role) fs))) (sym q)
         (pushes-bytes (for_role s.role c.waiting) turn_room (get 0 c.places s.role) s.heard w R s.role
@@ -166,7 +172,8 @@ module _ (g : Grammar) (G : Given g) (loads : Bool) (law : (es : List Move) → 
         (pushes-asked g size (for_role s.role c.waiting) turn_room (get 0 c.places s.role) s.heard
         (λ m i. sent-bytes w R m (K.waits m (Member-filtered (λ (m : Message). nat_eq m.to s.role) m c.waiting i).0).0))
 
-    honest-go : (w : World) → IsSized w → (c : Courier) → Knows g size w c → (vs : List Visit) → AreTurns size g c (map session_of vs) → Each (HasRole g) vs → Each (ChoicesOk g) vs → Each ChoicesSized vs
+    honest-go : (w : World) → IsSized w → (c : Courier) → Knows g size w c → (vs : List Visit) → AreTurns size g c (map session_of vs) →
+        Each (HasRole g) vs → Each (ChoicesOk g) vs → Each ChoicesSized vs
         → IsHonestInBytes g w.sites vs → IsHonestWire g w.sites vs × Each (PushesHaveBytes g) vs
     honest-go w R c K [] t l k s h = (tt, tt)
     honest-go w R c K (v ∷ vs) t l k s h =
@@ -178,14 +185,18 @@ module _ (g : Grammar) (G : Given g) (loads : Bool) (law : (es : List Move) → 
         let asked = asked-bytes (run g w A.events) U c L v.session t.0 in
         let heard = h asked bytes in
         let B = session-go g size G loads (run g w A.events) U.reached c L v.session l.0 t.0 t.1
-        (subst (λ ss. v.session.heard ≡ map hear (all_replies g ss (session_frames v))) (sym A.sites) (read-whole g size (sites_after g w.sites (choice_frames g v)) v.session.role v.session.asked v.session.heard t.1 heard.0)) in
-        let Bs = read-sized g (run g w A.events) (happenings (session_frames v)) (got-sized g (happenings (session_frames v)) (frames-got g size v.session.role v.session.asked v.session.heard t.1)) B.ran.events B.ran.read in
+        (subst (λ ss. v.session.heard ≡ map hear (all_replies g ss (session_frames v))) (sym A.sites)
+        (read-whole g size (sites_after g w.sites (choice_frames g v)) v.session.role v.session.asked v.session.heard t.1 heard.0)) in
+        let Bs = read-sized g (run g w A.events) (happenings (session_frames v)) (got-sized g (happenings (session_frames v))
+        (frames-got g size v.session.role v.session.asked v.session.heard t.1)) B.ran.events B.ran.read in
         let X = sized-run (run g w A.events) U B.ran.events B.ran.ok Bs in
-        let same : sites_after g (sites_after g w.sites (choice_frames g v)) (session_frames v) ≡ (run g (run g w A.events) B.ran.events).sites = ap (λ ss. sites_after g ss (session_frames v)) (sym A.sites) ∙ sym B.ran.sites in
+        let same : sites_after g (sites_after g w.sites (choice_frames g v)) (session_frames v) ≡ (run g (run g w A.events) B.ran.events).sites =
+        ap (λ ss. sites_after g ss (session_frames v)) (sym A.sites) ∙ sym B.ran.sites in
         let others = honest-go (run g (run g w A.events) B.ran.events) X (after_session c v.session) B.knows vs t.2 l.1 k.1 s.1 (subst (λ ss. IsHonestInBytes g ss vs) same heard.1) in
         ((heard.0, subst (λ ss. IsHonestWire g ss vs) (sym same) others.0), (asked, others.1))
 
 -- what was heard of replies that have bytes is what they are
 pub bytes_are_honest : (g : Grammar) → Given g → MessagesAreEncodable g → BytesAreHonest g
 bytes_are_honest g G law sized size loads es k s vs t l c cs h =
-    honest-go g G loads (law sized loads) size (world_after g loads es) (record { reached = record { events = es; ok = k; is = refl }; sizes = s }) (new_courier g) (knows-start g size (world_after g loads es)) vs t l c cs h
+    honest-go g G loads (law sized loads) size (world_after g loads es) (record { reached = record { events = es; ok = k; is = refl }; sizes = s })
+    (new_courier g) (knows-start g size (world_after g loads es)) vs t l c cs h

@@ -31,7 +31,8 @@ pub rest-waits : (r : ℕ) (ws ms : List Message) (m : Message) → for_role r w
 rest-waits r [] ms m e = absurd cc
 rest-waits r (w ∷ ws) ms m e = go (nat_eq w.to r) refl e (rest-waits r ws ms m)
   where
-    go : (b : Bool) → nat_eq w.to r ≡ b → cond b (w ∷ for_role r ws) (for_role r ws) ≡ m ∷ ms → (for_role r ws ≡ m ∷ ms → for_role r (without r ws) ≡ ms) → for_role r (cond b ws (w ∷ without r ws)) ≡ ms
+    go : (b : Bool) → nat_eq w.to r ≡ b → cond b (w ∷ for_role r ws) (for_role r ws) ≡ m ∷ ms →
+        (for_role r ws ≡ m ∷ ms → for_role r (without r ws) ≡ ms) → for_role r (cond b ws (w ∷ without r ws)) ≡ ms
     go true d e f = (cons-inj e).1
     go false d e f = ap (λ b. cond b (w ∷ for_role r (without r ws)) (for_role r (without r ws))) d ∙ f e
 
@@ -40,7 +41,8 @@ others-wait : (r : ℕ) (ws ms : List Message) (m n : Message) → for_role r ws
 others-wait r [] ms m n e i = never i
 others-wait r (w ∷ ws) ms m n e i = go (nat_eq w.to r) e i (others-wait r ws ms m n)
   where
-    go : (b : Bool) → cond b (w ∷ for_role r ws) (for_role r ws) ≡ m ∷ ms → Member n (w ∷ ws) → (for_role r ws ≡ m ∷ ms → Member n ws → Member n (without r ws) ⊎ (n ≡ m)) → Member n (cond b ws (w ∷ without r ws)) ⊎ (n ≡ m)
+    go : (b : Bool) → cond b (w ∷ for_role r ws) (for_role r ws) ≡ m ∷ ms → Member n (w ∷ ws) →
+        (for_role r ws ≡ m ∷ ms → Member n ws → Member n (without r ws) ⊎ (n ≡ m)) → Member n (cond b ws (w ∷ without r ws)) ⊎ (n ≡ m)
     go true e (inl p) f = inr (p ∙ (cons-inj e).0)
     go true e (inr i) f = inl i
     go false e (inl p) f = inl (inl p)
@@ -120,7 +122,8 @@ module _ (g : Grammar) (size : Frame → ℕ) where
   }
 
   module _ (G : Given g) (loads : Bool) where
-    pub knows-pull : (w : World) → IsReached g G loads w → (c : Courier) → Knows w c → (r p : ℕ) (m : Message) → r < g.roles → p ≡ get 0 c.places r → slice_get (site_at w r).outbox p ≡ Some m → m.to < g.roles → size (Push m) ≤ turn_room → Knows w (note r (Pull p) (Gave m) c)
+    pub knows-pull : (w : World) → IsReached g G loads w → (c : Courier) → Knows w c → (r p : ℕ) (m : Message) → r < g.roles → p ≡ get 0 c.places r →
+        slice_get (site_at w r).outbox p ≡ Some m → m.to < g.roles → size (Push m) ≤ turn_room → Knows w (note r (Pull p) (Gave m) c)
     knows-pull w R c K r p m l e d t s =
         let n = K.count in
         let l' : r < length c.places = omega (arith, n, l) in

@@ -130,7 +130,8 @@ module _ (g : Grammar) where
   delivered-few w k (Some m) f = received-few w k m.to (receive g (site_at w m.to) m) (receive-few g (site_at w m.to) m) f
 
   step-few : (w : World) (e : Move) → AllFew w.messages → AllFew (step g w e).world.messages
-  step-few w (Chooses c) f = chosen-few w (home g (node_of c)) c (choose g (site_at w (home g (node_of c))) c) (choose-few g (site_at w (home g (node_of c))) c (outcome g (site_at w (home g (node_of c))) c)) f
+  step-few w (Chooses c) f = chosen-few w (home g (node_of c)) c (choose g (site_at w (home g (node_of c))) c)
+      (choose-few g (site_at w (home g (node_of c))) c (outcome g (site_at w (home g (node_of c))) c)) f
   step-few w (Delivers k) f = delivered-few w k (slice_get w.messages k) f
 
   -- each load of a world

@@ -61,7 +61,8 @@ module _ {L : Type 0} (n : Node) (f : L → Ref) where
 module _ (n : Node) (ri : ℕ) (f : ℕ → Ref) where
   kids-at : (cs : List Child) (i k : ℕ) → Each (λ (c : Child). Each TreeSized c.args) cs → AllAt n (lay_children n ri f i k cs).equations
   kids-at [] i k h = λ e m. never m
-  kids-at (d ∷ cs) i k h = at-both n (lay_list n f k d.args).equations (lay_children n ri f (suc i) (lay_list n f k d.args).next cs).equations (list-at n f d.args k h.0) (kids-at cs (suc i) (lay_list n f k d.args).next h.1)
+  kids-at (d ∷ cs) i k h = at-both n (lay_list n f k d.args).equations (lay_children n ri f (suc i) (lay_list n f k d.args).next cs).equations
+      (list-at n f d.args k h.0) (kids-at cs (suc i) (lay_list n f k d.args).next h.1)
 
   result-at : (t : Term) (k j : ℕ) → TreeSized t → AllAt n (lay_result n f k j t).equations
   result-at (Leaf v) k j h e m = elim m [ inl z ↦ subst (λ (e : Equation). (e.left.node ≡ n) × HeadFits e.body) (sym z) (refl, tt) | inr z ↦ never z ]
@@ -72,7 +73,8 @@ module _ (n : Node) (ri : ℕ) (f : ℕ → Ref) where
 
   results-at : (ts : List Term) (k j : ℕ) → Each TreeSized ts → AllAt n (lay_results n f k j ts)
   results-at [] k j h = λ e m. never m
-  results-at (t ∷ ts) k j h = at-both n (lay_result n f k j t).equations (lay_results n f (lay_result n f k j t).next (suc j) ts) (result-at t k j h.0) (results-at ts (lay_result n f k j t).next (suc j) h.1)
+  results-at (t ∷ ts) k j h = at-both n (lay_result n f k j t).equations (lay_results n f (lay_result n f k j t).next (suc j) ts)
+      (result-at t k j h.0) (results-at ts (lay_result n f k j t).next (suc j) h.1)
 
 -- an argument has its sizes as a tree
 mutual
@@ -120,7 +122,8 @@ shallow-rule (Some q) k n args h rule bound e = go (nat_eq q.sort h.sort) (nat_e
     go true false e = absurd cc
     go false b e = absurd cc
 
-shallow-state : (s : State) (g : Grammar) (k : Map) (n : Node) (r : ℕ) (args : List Ground) (h : Held) (rule : Rule) (bound : List Ref) → by_state s g k n r args h ≡ Takes rule bound → deep n rule ≡ false
+shallow-state : (s : State) (g : Grammar) (k : Map) (n : Node) (r : ℕ) (args : List Ground) (h : Held) (rule : Rule) (bound : List Ref) →
+    by_state s g k n r args h ≡ Takes rule bound → deep n rule ≡ false
 shallow-state (Done a b) g k n r args h rule bound e = absurd cc
 shallow-state Pending g k n r args h rule bound e = shallow-rule (slice_get g.rules r) k n args h rule bound e
 

@@ -105,7 +105,9 @@ module _ (g : Grammar) where
 
     delivered-own : (w : Frail) (k : ℕ) (o : Option Posted) → Own w → Own (delivered_frail g w k o)
     delivered-own w k None own = own
-    delivered-own w k (Some p) own = own-happen w p.message.to (Got p.message) (reaction_of (receive g (kept_at w p.message.to).site p.message)) (slice_set w.posted k (with_delivery (length (kept_at w p.message.to).events) p)) (got-reacts (kept_at w p.message.to).site p.message (receive g (kept_at w p.message.to).site p.message) refl) own
+    delivered-own w k (Some p) own = own-happen w p.message.to (Got p.message) (reaction_of (receive g (kept_at w p.message.to).site p.message))
+        (slice_set w.posted k (with_delivery (length (kept_at w p.message.to).events) p)) (got-reacts (kept_at w p.message.to).site p.message
+        (receive g (kept_at w p.message.to).site p.message) refl) own
 
     pub step-own : (w : Frail) (e : Move) → Own w → Own (frail_step g w e)
     step-own w (Chooses c) p = chosen-own w (home g (node_of c)) c (choose g (kept_at w (home g (node_of c))).site c) refl p

@@ -36,7 +36,8 @@ happenings-append [] ys = refl
 happenings-append (x ∷ xs) ys = ap (λ hs. happening_of x.frame ++ hs) (happenings-append xs ys) ∙ sym (append_assoc (happening_of x.frame) (happenings xs) (happenings ys))
 
 -- a choice that is valid is answered at its home
-choice-response : (a b : Bool) (s : Site) (z : Chosen) → a ≡ true → b ≡ true → (x : Answer Ref) × ((cond (not a) (record { site = s; response = NotValid }) (cond (not b) (record { site = s; response = NotForMe }) (chosen s z))).response ≡ Answers x)
+choice-response : (a b : Bool) (s : Site) (z : Chosen) → a ≡ true → b ≡ true → (x : Answer Ref)
+    × ((cond (not a) (record { site = s; response = NotValid }) (cond (not b) (record { site = s; response = NotForMe }) (chosen s z))).response ≡ Answers x)
 choice-response true true s (No c) p q = (c, refl)
 choice-response true true s (Did y) p q = (answer_to (Did y), refl)
 choice-response true false s z p q = absurd cc
@@ -88,7 +89,8 @@ module _ (g : Grammar) where
     made : (w : World) → IsReached g G loads w → (c : Choice) → choice_ok g c ≡ true → Went g G loads w (home g (node_of c)) (Choose c)
     made w R c e =
         let M = reached-mail g G loads w R in
-        let (y, q) = choice-response (choice_ok g c) (nat_eq (home g (node_of c)) (site_at w (home g (node_of c))).role) (site_at w (home g (node_of c))) (choose g (site_at w (home g (node_of c))) c) e
+        let (y, q) = choice-response (choice_ok g c) (nat_eq (home g (node_of c)) (site_at w (home g (node_of c))).role)
+        (site_at w (home g (node_of c))) (choose g (site_at w (home g (node_of c))) c) e
         (eq-eqb (home g (node_of c)) (site_at w (home g (node_of c))).role (sym (M.roles (home g (node_of c))))) in
         chose g G loads w R (home g (node_of c)) c y q
 

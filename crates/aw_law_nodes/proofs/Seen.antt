@@ -19,7 +19,9 @@ use Rattle.aw_law_sites.specs.Worlds.{node_of, empty_world, site_at, with_site, 
 use Rattle.aw_law_worlds.specs.Invariant.{IsInvariant}
 use Rattle.aw_law_worlds.specs.Laws.{MayCome, world_after, InvariantHolds}
 use Rattle.aw_law_worlds.proofs.Settling.{run_both}
-use Rattle.aw_law_nodes.specs.Crashes.{Kept, Posted, Past, Frail, new_kept, kept_at, start_at, kept_after, posting, happen, chosen_frail, reaction_of, with_delivery, delivered_frail, frail_step, FrailEvent, frail_run, AreAllowed, is_delivered, choices_in, remaining, world_of}
+use Rattle.aw_law_nodes.specs.Crashes.{Kept, Posted, Past, Frail, new_kept, kept_at, start_at, kept_after, posting, happen, chosen_frail, reaction_of}
+use Rattle.aw_law_nodes.specs.Crashes.{with_delivery, delivered_frail, frail_step, FrailEvent, frail_run, AreAllowed, is_delivered, choices_in}
+use Rattle.aw_law_nodes.specs.Crashes.{remaining, world_of}
 use Rattle.aw_law_nodes.specs.Nodes.{ReadAs}
 use Rattle.aw_law_nodes.proofs.OwnEvents.{empty-size, plain_run, run-size, Own, run-own, start-own}
 use Rattle.aw_law_nodes.proofs.Crashed.{without}
@@ -183,7 +185,8 @@ module _ (g : Grammar) (loads : Bool) where
       (kept_at (frail_run g loads (start_at g loads) es) r).site ≡ site_run g (empty_site loads r) (kept_at (frail_run g loads (start_at g loads) es) r).events
   sites_are_their_events es h r l =
       let (fs, k, q) = without g loads [] tt es h in
-      let size : length (frail_run g loads (start_at g loads) es).kept ≡ length (start_at g loads).kept = subst (λ (u : Frail). length u.kept ≡ length (start_at g loads).kept) q (run-size g (start_at g loads) fs) in
+      let size : length (frail_run g loads (start_at g loads) es).kept ≡ length (start_at g loads).kept =
+      subst (λ (u : Frail). length u.kept ≡ length (start_at g loads).kept) q (run-size g (start_at g loads) fs) in
       let n = empty-size loads 0 g.roles in
       let own : Own g loads (frail_run g loads (start_at g loads) es) = subst (Own g loads) q (run-own g loads (start_at g loads) fs (start-own g loads)) in
       own r (omega (arith, size, n, l))

@@ -23,7 +23,9 @@ use Rattle.aw_law_worlds.specs.Invariant.{sender, IsSent}
 use Rattle.aw_law_worlds.specs.Laws.{MayCome, world_after}
 use Rattle.aw_law_worlds.proofs.Places.{get-set, get-set_other, length-set, member-get, same_or_not}
 use Rattle.aw_law_worlds.proofs.Settling.{run_both}
-use Rattle.aw_law_nodes.specs.Nodes.{Frame, Push, Choose, Pull, Listed, Answers, NotValid, NotForMe, received, chosen, handle, Asked, site_of, ask, sites_after, IsHonestFrame, AreHonest, site_after, replies, all_replies, asked_of, replies_of, happening_of, happenings, ReadAs, SaysSame, world_replies, reply_of, event_replies, AllSaySame, sent_by}
+use Rattle.aw_law_nodes.specs.Nodes.{Frame, Push, Choose, Pull, Listed, Answers, NotValid, NotForMe, received, chosen, handle, Asked, site_of, ask}
+use Rattle.aw_law_nodes.specs.Nodes.{sites_after, IsHonestFrame, AreHonest, site_after, replies, all_replies, asked_of, replies_of, happening_of}
+use Rattle.aw_law_nodes.specs.Nodes.{happenings, ReadAs, SaysSame, world_replies, reply_of, event_replies, AllSaySame, sent_by}
 use Rattle.aw_law_nodes.proofs.Mail.{Mail, Given}
 use Rattle.aw_law_nodes.proofs.ListParts.{set-same, filter-append, filter-all, filter-none}
 use Rattle.aw_law_nodes.proofs.Following.{took-sites, delivered-sites, choose-boxes, receive-boxes}
@@ -39,12 +41,15 @@ read-append g w (Got m ∷ hs) is (Chooses d ∷ es) fs p q = never p
 read-append g w (Got m ∷ hs) is (Delivers k ∷ es) fs p q = (p.0, read-append g (step g w (Delivers k)).world hs is es fs p.1 q)
 
 -- a choice that is answered is a choice of this role
-answered : (a b : Bool) (s : Site) (z : Chosen) (x : Answer Ref) → (cond (not a) (record { site = s; response = NotValid }) (cond (not b) (record { site = s; response = NotForMe }) (chosen s z))).response ≡ Answers x → (a ≡ true) × (b ≡ true)
+answered : (a b : Bool) (s : Site) (z : Chosen) (x : Answer Ref) →
+    (cond (not a) (record { site = s; response = NotValid }) (cond (not b) (record { site = s; response = NotForMe }) (chosen s z))).response ≡
+    Answers x → (a ≡ true) × (b ≡ true)
 answered true true s z x e = (refl, refl)
 answered true false s z x e = absurd cc
 answered false b s z x e = absurd cc
 
-pub answered-site : (a b : Bool) (s : Site) (z : Chosen) → a ≡ true → b ≡ true → (cond (not a) (record { site = s; response = NotValid }) (cond (not b) (record { site = s; response = NotForMe }) (chosen s z))).site ≡ (chosen s z).site
+pub answered-site : (a b : Bool) (s : Site) (z : Chosen) → a ≡ true → b ≡ true →
+    (cond (not a) (record { site = s; response = NotValid }) (cond (not b) (record { site = s; response = NotForMe }) (chosen s z))).site ≡ (chosen s z).site
 answered-site true true s z p q = refl
 answered-site true false s z p q = absurd cc
 answered-site false b s z p q = absurd cc
@@ -84,7 +89,8 @@ module _ (g : Grammar) (G : Given g) (loads : Bool) where
   chose-ok : (w : World) (r : ℕ) (c : Choice) (x : Answer Ref) → (handle g (site_at w r) (Choose c)).response ≡ Answers x → MayCome g (Chooses c)
   chose-ok w r c x e = G.good c (answered (choice_ok g c) (nat_eq (home g (node_of c)) (site_at w r).role) (site_at w r) (choose g (site_at w r) c) x e).0
 
-  chose-sites : (w : World) → IsReached w → (r : ℕ) (c : Choice) (x : Answer Ref) → (handle g (site_at w r) (Choose c)).response ≡ Answers x → (step g w (Chooses c)).world.sites ≡ ask g w.sites (record { role = r; frame = Choose c })
+  chose-sites : (w : World) → IsReached w → (r : ℕ) (c : Choice) (x : Answer Ref) → (handle g (site_at w r) (Choose c)).response ≡ Answers x →
+      (step g w (Chooses c)).world.sites ≡ ask g w.sites (record { role = r; frame = Choose c })
   chose-sites w R r c x e =
       let s = site_at w r in
       let M = reached-mail w R in
@@ -138,18 +144,21 @@ module _ (g : Grammar) (G : Given g) (loads : Bool) where
   push-same w k to BadName e = elim e [ inl p ↦ absurd cc | inr p ↦ (let q = p.1 in absurd cc) ]
 
   delivered-same : (w : World) → IsReached w → (k : ℕ) (m : Message) → IsSent w m k → SaysSame (step g w (Delivers k)).reply (handle g (site_at w m.to) (Push m)).response
-  delivered-same w R k m e = subst (λ o. SaysSame (deliver_on g w k o).reply (received (site_at w m.to) (receive g (site_at w m.to) m)).response) (sym e) (push-same w k m.to (receive g (site_at w m.to) m) ((reached-mail w R).known k m e))
+  delivered-same w R k m e = subst (λ o. SaysSame (deliver_on g w k o).reply (received (site_at w m.to) (receive g (site_at w m.to) m)).response)
+      (sym e) (push-same w k m.to (receive g (site_at w m.to) m) ((reached-mail w R).known k m e))
 
   choice-same : (w : World) (r : ℕ) (c : Choice) (z : Chosen) (s : Site) → SaysSame (chosen_at w r c z).reply (chosen s z).response
   choice-same w r c (No a) s = refl
   choice-same w r c (Did x) s = refl
 
-  answered-same : (w : World) (r : ℕ) (c : Choice) (a b : Bool) (s : Site) (z : Chosen) → a ≡ true → b ≡ true → SaysSame (chosen_at w r c z).reply (cond (not a) (record { site = s; response = NotValid }) (cond (not b) (record { site = s; response = NotForMe }) (chosen s z))).response
+  answered-same : (w : World) (r : ℕ) (c : Choice) (a b : Bool) (s : Site) (z : Chosen) → a ≡ true → b ≡ true → SaysSame (chosen_at w r c z).reply
+      (cond (not a) (record { site = s; response = NotValid }) (cond (not b) (record { site = s; response = NotForMe }) (chosen s z))).response
   answered-same w r c true true s z p q = choice-same w r c z s
   answered-same w r c true false s z p q = absurd cc
   answered-same w r c false b s z p q = absurd cc
 
-  chose-same : (w : World) → IsReached w → (r : ℕ) (c : Choice) (x : Answer Ref) → (handle g (site_at w r) (Choose c)).response ≡ Answers x → SaysSame (step g w (Chooses c)).reply (handle g (site_at w r) (Choose c)).response
+  chose-same : (w : World) → IsReached w → (r : ℕ) (c : Choice) (x : Answer Ref) → (handle g (site_at w r) (Choose c)).response ≡ Answers x →
+      SaysSame (step g w (Chooses c)).reply (handle g (site_at w r) (Choose c)).response
   chose-same w R r c x e =
       let M = reached-mail w R in
       let (a, b) = answered (choice_ok g c) (nat_eq (home g (node_of c)) (site_at w r).role) (site_at w r) (choose g (site_at w r) c) x e in
@@ -161,10 +170,14 @@ module _ (g : Grammar) (G : Given g) (loads : Bool) where
   abbrev Rest : List Asked → Type 0
   Rest as_ = (w : World) → IsReached w → AreHonest g w.sites as_ → (es : List Move) → ReadAs g w (happenings as_) es → AllSaySame (world_replies g w es) (event_replies g w.sites as_)
 
-  rest-same : (w : World) (as_ : List Asked) → Rest as_ → (es : List Move) → Each (MayCome g) es → IsReached w → (ss : List Site) → (run g w es).sites ≡ ss → AreHonest g ss as_ → (fs : List Move) → ReadAs g (run g w es) (happenings as_) fs → AllSaySame (world_replies g (run g w es) fs) (event_replies g ss as_)
-  rest-same w as_ f es k R ss e h fs q = subst (λ ss. AllSaySame (world_replies g (run g w es) fs) (event_replies g ss as_)) e (f (run g w es) (reached-run w R es k) (subst (λ ss. AreHonest g ss as_) (sym e) h) fs q)
+  rest-same : (w : World) (as_ : List Asked) → Rest as_ → (es : List Move) → Each (MayCome g) es → IsReached w → (ss : List Site) →
+      (run g w es).sites ≡ ss → AreHonest g ss as_ → (fs : List Move) → ReadAs g (run g w es) (happenings as_) fs →
+      AllSaySame (world_replies g (run g w es) fs) (event_replies g ss as_)
+  rest-same w as_ f es k R ss e h fs q = subst (λ ss. AllSaySame (world_replies g (run g w es) fs) (event_replies g ss as_)) e
+      (f (run g w es) (reached-run w R es k) (subst (λ ss. AreHonest g ss as_) (sym e) h) fs q)
 
-  frame-same : (w : World) → IsReached w → (r : ℕ) (f : Frame) (as_ : List Asked) → Rest as_ → IsHonestFrame g w.sites r f → AreHonest g (ask g w.sites (record { role = r; frame = f })) as_ → (es : List Move) → ReadAs g w (happening_of f ++ happenings as_) es
+  frame-same : (w : World) → IsReached w → (r : ℕ) (f : Frame) (as_ : List Asked) → Rest as_ → IsHonestFrame g w.sites r f →
+      AreHonest g (ask g w.sites (record { role = r; frame = f })) as_ → (es : List Move) → ReadAs g w (happening_of f ++ happenings as_) es
       → AllSaySame (world_replies g w es) (reply_of f (handle g (site_at w r) f).response ++ event_replies g (ask g w.sites (record { role = r; frame = f })) as_)
   frame-same w R r (Push m) as_ F h hs [] q = never q
   frame-same w R r (Push m) as_ F h hs (Chooses d ∷ es) q = never q
@@ -176,7 +189,8 @@ module _ (g : Grammar) (G : Given g) (loads : Bool) where
   frame-same w R r (Choose c) as_ F h hs [] q = never q
   frame-same w R r (Choose c) as_ F h hs (Delivers k ∷ es) q = never q
   frame-same w R r (Choose c) as_ F h hs (Chooses d ∷ es) q =
-      subst (λ d. ReadAs g (step g w (Chooses d)).world (happenings as_) es → AllSaySame (world_replies g w (Chooses d ∷ es)) (reply_of (Choose c) (handle g (site_at w r) (Choose c)).response ++ event_replies g (ask g w.sites (record { role = r; frame = Choose c })) as_)) q.0
+      subst (λ d. ReadAs g (step g w (Chooses d)).world (happenings as_) es → AllSaySame (world_replies g w (Chooses d ∷ es))
+      (reply_of (Choose c) (handle g (site_at w r) (Choose c)).response ++ event_replies g (ask g w.sites (record { role = r; frame = Choose c })) as_)) q.0
       (λ u. (
         chose-same w R r c h.0 h.1,
         rest-same w as_ F (Chooses c ∷ []) (chose-ok w r c h.0 h.1, tt) R (ask g w.sites (record { role = r; frame = Choose c })) (chose-sites w R r c h.0 h.1) hs es u,
@@ -184,7 +198,8 @@ module _ (g : Grammar) (G : Given g) (loads : Bool) where
   frame-same w R r (Pull k) as_ F h hs es q = rest-same w as_ F [] tt R (ask g w.sites (record { role = r; frame = Pull k })) (sym (set-same (empty_site false r) w.sites r)) hs es q
   frame-same w R r (Listed k) as_ F h hs es q = rest-same w as_ F [] tt R (ask g w.sites (record { role = r; frame = Listed k })) (sym (set-same (empty_site false r) w.sites r)) hs es q
 
-  pub replies-same : (w : World) → IsReached w → (as_ : List Asked) → AreHonest g w.sites as_ → (es : List Move) → ReadAs g w (happenings as_) es → AllSaySame (world_replies g w es) (event_replies g w.sites as_)
+  pub replies-same : (w : World) → IsReached w → (as_ : List Asked) → AreHonest g w.sites as_ → (es : List Move) → ReadAs g w (happenings as_) es →
+      AllSaySame (world_replies g w es) (event_replies g w.sites as_)
   replies-same w R [] h [] q = tt
   replies-same w R [] h (e ∷ es) q = never q
   replies-same w R (a ∷ as_) h es q = frame-same w R a.role a.frame as_ (λ v V h es q. replies-same v V as_ h es q) h.0 h.1 es q
@@ -210,11 +225,13 @@ own_sessions g ss [] r l = (refl, refl)
 own_sessions g ss (a ∷ as_) r l = go (let n = length-set ss a.role (handle g (site_of ss a.role) a.frame).site in own_sessions g (ask g ss a) as_ r (omega (arith, n, l))) (nat_eq a.role r) refl
   where
     Rest : Type 0
-    Rest = (site_of (sites_after g (ask g ss a) as_) r ≡ site_after g (site_of (ask g ss a) r) (asked_of r as_)) × (replies_of r as_ (all_replies g (ask g ss a) as_) ≡ replies g (site_of (ask g ss a) r) (asked_of r as_))
+    Rest = (site_of (sites_after g (ask g ss a) as_) r ≡ site_after g (site_of (ask g ss a) r) (asked_of r as_))
+        × (replies_of r as_ (all_replies g (ask g ss a) as_) ≡ replies g (site_of (ask g ss a) r) (asked_of r as_))
 
     go : Rest → (b : Bool) → nat_eq a.role r ≡ b →
         (site_of (sites_after g (ask g ss a) as_) r ≡ site_after g (site_of ss r) (cond b (a.frame ∷ asked_of r as_) (asked_of r as_)))
-        × (cond b ((handle g (site_of ss a.role) a.frame).response ∷ replies_of r as_ (all_replies g (ask g ss a) as_)) (replies_of r as_ (all_replies g (ask g ss a) as_)) ≡ replies g (site_of ss r) (cond b (a.frame ∷ asked_of r as_) (asked_of r as_)))
+        × (cond b ((handle g (site_of ss a.role) a.frame).response ∷ replies_of r as_ (all_replies g (ask g ss a) as_))
+        (replies_of r as_ (all_replies g (ask g ss a) as_)) ≡ replies g (site_of ss r) (cond b (a.frame ∷ asked_of r as_) (asked_of r as_)))
     go rest true e =
         let p = eqb-true a.role r e in
         let q = own_site g ss a r l true e in (
@@ -230,14 +247,17 @@ module _ (g : Grammar) (G : Given g) (loads : Bool) where
   Boxed w = (r : ℕ) → (site_at w r).outbox ≡ sent_by g r w.messages
 
   -- a site changes, and what it sent is from its role
-  with-boxed : (w : World) (r : ℕ) (x : Reaction) → r < length w.sites → x.site.outbox ≡ (site_at w r).outbox ++ x.sent → ((m : Message) → Member m x.sent → sender g m.kind ≡ r) → Boxed w → Boxed (with_site w r x)
+  with-boxed : (w : World) (r : ℕ) (x : Reaction) → r < length w.sites → x.site.outbox ≡ (site_at w r).outbox ++ x.sent →
+      ((m : Message) → Member m x.sent → sender g m.kind ≡ r) → Boxed w → Boxed (with_site w r x)
   with-boxed w r x l q f h a =
       let z = filter-append (λ (m : Message). nat_eq (sender g m.kind) a) w.messages x.sent in
       elim (same_or_not r a) [
         | inr n ↦
             ap (λ (s : Site). s.outbox) (get-set_other (empty_site false a) w.sites r a x.site n)
             ∙ (h a ∙ (sym (append-nil (sent_by g a w.messages))
-            ∙ (ap (λ ms. sent_by g a w.messages ++ ms) (sym (filter-none (λ (m : Message). nat_eq (sender g m.kind) a) x.sent (λ m i. not-eq (sender g m.kind) a (λ e. n (sym (f m i) ∙ e))))) ∙ sym z)))
+            ∙ (ap (λ ms. sent_by g a w.messages ++ ms)
+            (sym (filter-none (λ (m : Message). nat_eq (sender g m.kind) a) x.sent
+            (λ m i. not-eq (sender g m.kind) a (λ e. n (sym (f m i) ∙ e))))) ∙ sym z)))
         | inl e ↦ subst (λ a. (site_at (with_site w r x) a).outbox ≡ sent_by g a (w.messages ++ x.sent)) e
             (ap (λ (s : Site). s.outbox) (get-set (empty_site false r) w.sites r x.site l)
             ∙ (q ∙ (ap (λ ms. ms ++ x.sent) (h r)
@@ -259,13 +279,15 @@ module _ (g : Grammar) (G : Given g) (loads : Bool) where
   sent-here : (w v : World) (r : ℕ) (x : Reaction) → IsReached g G loads v → (site_at v r).outbox ≡ (site_at w r).outbox ++ x.sent → (m : Message) → Member m x.sent → sender g m.kind ≡ r
   sent-here w v r x R q m i = from-here v R r m (subst (Member m) (sym q) (member_right m (site_at w r).outbox x.sent i))
 
-  took-boxed : (w : World) (r : ℕ) (c : Choice) (z : Chosen) → r < length w.sites → choose g (site_at w r) c ≡ z → IsReached g G loads (chosen_at w r c z).world → Boxed w → Boxed (chosen_at w r c z).world
+  took-boxed : (w : World) (r : ℕ) (c : Choice) (z : Chosen) → r < length w.sites → choose g (site_at w r) c ≡ z →
+      IsReached g G loads (chosen_at w r c z).world → Boxed w → Boxed (chosen_at w r c z).world
   took-boxed w r c (No a) l e R h = h
   took-boxed w r c (Did x) l e R h =
       let q = choose-boxes g (site_at w r) c x e in
       with-boxed w r x l q (sent-here w (chosen_at w r c (Did x)).world r x R (ap (λ (s : Site). s.outbox) (get-set (empty_site false r) w.sites r x.site l) ∙ q)) h
 
-  got-boxed : (w : World) (k : ℕ) (m : Message) (z : Received Reaction) → m.to < length w.sites → receive g (site_at w m.to) m ≡ z → IsReached g G loads (received_at w k m.to z).world → Boxed w → Boxed (received_at w k m.to z).world
+  got-boxed : (w : World) (k : ℕ) (m : Message) (z : Received Reaction) → m.to < length w.sites → receive g (site_at w m.to) m ≡ z →
+      IsReached g G loads (received_at w k m.to z).world → Boxed w → Boxed (received_at w k m.to z).world
   got-boxed w k m (New x) l e R h =
       let q = receive-boxes g (site_at w m.to) m x e in
       with-boxed w m.to x l q (sent-here w (received_at w k m.to (New x)).world m.to x R (ap (λ (s : Site). s.outbox) (get-set (empty_site false m.to) w.sites m.to x.site l) ∙ q)) h
@@ -274,7 +296,8 @@ module _ (g : Grammar) (G : Given g) (loads : Bool) where
   got-boxed w k m NotMine l e R h = h
   got-boxed w k m BadName l e R h = h
 
-  deliver-boxed : (w : World) (k : ℕ) (o : Option Message) → slice_get w.messages k ≡ o → IsReached g G loads w → IsReached g G loads (deliver_on g w k o).world → Boxed w → Boxed (deliver_on g w k o).world
+  deliver-boxed : (w : World) (k : ℕ) (o : Option Message) → slice_get w.messages k ≡ o → IsReached g G loads w →
+      IsReached g G loads (deliver_on g w k o).world → Boxed w → Boxed (deliver_on g w k o).world
   deliver-boxed w k None e R V h = h
   deliver-boxed w k (Some m) e R V h =
       let M = reached-mail g G loads w R in

@@ -12,7 +12,10 @@ use Rattle.aw_law_sites.specs.Worlds.{World, site_at, run}
 use Rattle.aw_law_worlds.proofs.Lists.{length-mapped}
 use Rattle.aw_law_worlds.proofs.Places.{get-set, member-get}
 use Rattle.aw_law_worlds.proofs.Settling.{run_both}
-use Rattle.aw_law_nodes.specs.Couriers.{Heard, Pushed, Gave, NoMore, hear, Session, Courier, for_role, turn_room, turn_messages, asks, after_reply, behind, pulls, pushes, requests, note, noted, after_session, AreReplies, AreTurns, after_all, flat, IsRound, Visit, asked_at, choice_frames, session_frames, visit_frames, IsPrefix, IsHonestWire, session_of, ChoicesOk, HasRole}
+use Rattle.aw_law_nodes.specs.Couriers.{Heard, Pushed, Gave, NoMore, hear, Session, Courier, for_role, turn_room, turn_messages, asks, after_reply}
+use Rattle.aw_law_nodes.specs.Couriers.{behind, pulls, pushes, requests, note, noted, after_session, AreReplies, AreTurns, after_all, flat, IsRound}
+use Rattle.aw_law_nodes.specs.Couriers.{Visit, asked_at, choice_frames, session_frames, visit_frames, IsPrefix, IsHonestWire, session_of, ChoicesOk}
+use Rattle.aw_law_nodes.specs.Couriers.{HasRole}
 use Rattle.aw_law_nodes.specs.Nodes.{Frame, Push, Pull, Sends, at_place, Asked, ask, sites_after, all_replies}
 use Rattle.aw_law_nodes.proofs.Mail.{Given}
 use Rattle.aw_law_nodes.proofs.Served.{IsReached, reached-run, pushed}
@@ -75,7 +78,8 @@ module _ (g : Grammar) where
     length-fit (f ∷ fs) (x ∷ xs) a = ap suc (length-fit fs xs a.1)
 
     -- a whole session over an honest wire reads the replies themselves
-    pub read-whole : (ss : List Site) (r : ℕ) (fs : List Frame) (xs : List Heard) → AreReplies size g fs xs → IsPrefix xs (map hear (all_replies g ss (map (asked_at r) fs))) → xs ≡ map hear (all_replies g ss (map (asked_at r) fs))
+    pub read-whole : (ss : List Site) (r : ℕ) (fs : List Frame) (xs : List Heard) → AreReplies size g fs xs →
+        IsPrefix xs (map hear (all_replies g ss (map (asked_at r) fs))) → xs ≡ map hear (all_replies g ss (map (asked_at r) fs))
     read-whole ss r fs xs a (zs, e) =
         let p = length-fit fs xs a in
         let q = length-replies g ss (map (asked_at r) fs) in
@@ -95,7 +99,9 @@ module _ (g : Grammar) where
       -- one pull, and the rest of the turn
       pull-on : (w : World) → IsReached g G loads w → (c : Courier) → Knows g size w c → (r p : ℕ) → r < g.roles → p ≡ get 0 c.places r → (b : Bool) (x : Heard) (xs : List Heard) (rest : List Frame)
           → ((d : Courier) → Knows g size w d → suc p ≡ get 0 d.places r → AreReplies size g rest xs → xs ≡ map hear (all_replies g w.sites (map (asked_at r) rest)) → Turned w r d rest xs)
-          → AreReplies size g (asks b (Pull p) (after_reply x rest)) (x ∷ xs) → x ∷ xs ≡ map hear (all_replies g w.sites (map (asked_at r) (asks b (Pull p) (after_reply x rest)))) → Turned w r c (asks b (Pull p) (after_reply x rest)) (x ∷ xs)
+          → AreReplies size g (asks b (Pull p) (after_reply x rest)) (x ∷ xs) →
+          x ∷ xs ≡ map hear (all_replies g w.sites (map (asked_at r) (asks b (Pull p) (after_reply x rest)))) →
+          Turned w r c (asks b (Pull p) (after_reply x rest)) (x ∷ xs)
       pull-on w R c K r p l e false x xs rest f a h = never a
       pull-on w R c K r p l e true (Gave m) xs rest f a h =
           let n = K.count in
@@ -114,8 +120,10 @@ module _ (g : Grammar) where
           (λ d D q. pulls-go xs (room - size (Pull p)) (left - 1) (suc p) w R d D r l q) a h
 
       -- one push, and the rest of the turn
-      push-on : (w : World) → IsReached g G loads w → (c : Courier) → Knows g size w c → (r : ℕ) (m : Message) (ms : List Message) → for_role r c.waiting ≡ m ∷ ms → (b : Bool) (xs : List Heard) (rest : List Frame)
-          → ((v : World) → IsReached g G loads v → (d : Courier) → Knows g size v d → for_role r d.waiting ≡ ms → d.places ≡ c.places → AreReplies size g rest (behind xs) → behind xs ≡ map hear (all_replies g v.sites (map (asked_at r) rest)) → Turned v r d rest (behind xs))
+      push-on : (w : World) → IsReached g G loads w → (c : Courier) → Knows g size w c → (r : ℕ) (m : Message) (ms : List Message) →
+          for_role r c.waiting ≡ m ∷ ms → (b : Bool) (xs : List Heard) (rest : List Frame)
+          → ((v : World) → IsReached g G loads v → (d : Courier) → Knows g size v d → for_role r d.waiting ≡ ms → d.places ≡ c.places →
+          AreReplies size g rest (behind xs) → behind xs ≡ map hear (all_replies g v.sites (map (asked_at r) rest)) → Turned v r d rest (behind xs))
           → AreReplies size g (asks b (Push m) rest) xs → xs ≡ map hear (all_replies g w.sites (map (asked_at r) (asks b (Push m) rest))) → Turned w r c (asks b (Push m) rest) xs
       push-on w R c K r m ms e false xs rest f a h = turned-none w r c K xs
       push-on w R c K r m ms e true [] rest f a h = never a
@@ -125,34 +133,40 @@ module _ (g : Grammar) where
           let W = pushed g G loads w r k m s t in
           let V = reached-run g G loads w R W.events W.ok in
           let F = run-follows g w W.events in
-          let z = f (run g w W.events) V (note r (Push m) x c) (knows-push g size (run g w W.events) c (knows-on g size w (run g w W.events) F c K) r m ms x e (k, F.sent k m s, delivered-now g G loads w R k m s)) (rest-waits r c.waiting ms m e) refl a.1
+          let z = f (run g w W.events) V (note r (Push m) x c) (knows-push g size (run g w W.events) c (knows-on g size w (run g w W.events) F c K) r
+          m ms x e (k, F.sent k m s, delivered-now g G loads w R k m s)) (rest-waits r c.waiting ms m e) refl a.1
           ((cons-inj h).1 ∙ ap (λ ss. map hear (all_replies g ss (map (asked_at r) rest))) (sym W.sites)) in
           record {
             ran = ran-on g G loads w r (Push m) W (map (asked_at r) rest) z.ran;
             knows = subst (λ u. Knows g size u (noted r rest xs (note r (Push m) x c))) (sym (run_both g w W.events z.ran.events)) z.knows;
           }
 
-      pushes-go : (ms : List Message) (room p : ℕ) (xs : List Heard) (w : World) → IsReached g G loads w → (c : Courier) → Knows g size w c → (r : ℕ) → r < g.roles → for_role r c.waiting ≡ ms → p ≡ get 0 c.places r
+      pushes-go : (ms : List Message) (room p : ℕ) (xs : List Heard) (w : World) → IsReached g G loads w → (c : Courier) → Knows g size w c →
+          (r : ℕ) → r < g.roles → for_role r c.waiting ≡ ms → p ≡ get 0 c.places r
           → AreReplies size g (pushes size room ms p xs) xs → xs ≡ map hear (all_replies g w.sites (map (asked_at r) (pushes size room ms p xs))) → Turned w r c (pushes size room ms p xs) xs
       pushes-go [] room p xs w R c K r l q e a h = pulls-go xs room turn_messages p w R c K r l e a h
       pushes-go (m ∷ ms) room p xs w R c K r l q e a h =
           push-on w R c K r m ms q (nat_le (size (Push m)) room) xs (pushes size (room - size (Push m)) ms p (behind xs))
           (λ v V d D z u. pushes-go ms (room - size (Push m)) p (behind xs) v V d D r l z (e ∙ ap (λ ps. get 0 ps r) (sym u))) a h
 
-      pub session-go : (w : World) → IsReached g G loads w → (c : Courier) → Knows g size w c → (s : Session) → s.role < g.roles → s.asked ≡ requests size c s.role s.heard → AreReplies size g s.asked s.heard → s.heard ≡ map hear (all_replies g w.sites (map (asked_at s.role) s.asked))
+      pub session-go : (w : World) → IsReached g G loads w → (c : Courier) → Knows g size w c → (s : Session) → s.role < g.roles →
+          s.asked ≡ requests size c s.role s.heard → AreReplies size g s.asked s.heard →
+          s.heard ≡ map hear (all_replies g w.sites (map (asked_at s.role) s.asked))
           → Turned w s.role c s.asked s.heard
       session-go w R c K s l q a h =
           subst (λ fs. AreReplies size g fs s.heard → s.heard ≡ map hear (all_replies g w.sites (map (asked_at s.role) fs)) → Turned w s.role c fs s.heard) (sym q)
           (λ a h. pushes-go (for_role s.role c.waiting) turn_room (get 0 c.places s.role) s.heard w R c K s.role l refl refl a h) a h
 
       -- the visits of a call
-      pub visits-go : (w : World) → IsReached g G loads w → (c : Courier) → Knows g size w c → (vs : List Visit) → AreTurns size g c (map session_of vs) → Each (ChoicesOk g) vs → Each (HasRole g) vs → IsHonestWire g w.sites vs → Went_on w c vs
+      pub visits-go : (w : World) → IsReached g G loads w → (c : Courier) → Knows g size w c → (vs : List Visit) →
+          AreTurns size g c (map session_of vs) → Each (ChoicesOk g) vs → Each (HasRole g) vs → IsHonestWire g w.sites vs → Went_on w c vs
       visits-go w R c K [] t k l h = record { ran = ran-none g w; knows = K }
       visits-go w R c K (v ∷ vs) t k l h =
           let A = choices-go g G loads w R v k.0 in
           let U = reached-run g G loads w R A.events A.ok in
           let B = session-go (run g w A.events) U c (knows-on g size w (run g w A.events) (run-follows g w A.events) c K) v.session l.0 t.0 t.1
-          (subst (λ ss. v.session.heard ≡ map hear (all_replies g ss (session_frames v))) (sym A.sites) (read-whole (sites_after g w.sites (choice_frames g v)) v.session.role v.session.asked v.session.heard t.1 h.0)) in
+          (subst (λ ss. v.session.heard ≡ map hear (all_replies g ss (session_frames v))) (sym A.sites)
+          (read-whole (sites_after g w.sites (choice_frames g v)) v.session.role v.session.asked v.session.heard t.1 h.0)) in
           let X = reached-run g G loads (run g w A.events) U B.ran.events B.ran.ok in
           let C = visits-go (run g (run g w A.events) B.ran.events) X (after_session c v.session) B.knows vs t.2 k.1 l.1
           (subst (λ ss. IsHonestWire g ss vs) (ap (λ ss. sites_after g ss (session_frames v)) (sym A.sites) ∙ sym B.ran.sites) h.1) in

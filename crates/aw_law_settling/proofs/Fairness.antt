@@ -171,7 +171,8 @@ module _ (g : Grammar) (f : ℕ → ℕ) where
     same-from : (n m : ℕ) → IsQuiet (at n) → n ≤ m → at m ≡ at n
     same-from n m q l = let z : m ≡ n + (m - n) = omega (arith, l) in ap at z ∙ stays-same n (m - n) q
 
-  pub fair_settles : InvariantHolds g → MessagesAreBounded g → Repeats g → QuietHolds g → QuietAnswers g → (loads : Bool) (es : List Move) → Each (MayCome g) es → IsFair g (world_after g loads es) f → Settles g (world_after g loads es) f
+  pub fair_settles : InvariantHolds g → MessagesAreBounded g → Repeats g → QuietHolds g → QuietAnswers g → (loads : Bool) (es : List Move) →
+      Each (MayCome g) es → IsFair g (world_after g loads es) f → Settles g (world_after g loads es) f
   fair_settles invariant bound repeats holds answers loads es may fair =
       let v = world_after g loads es in
       let (n, quiet) = gets-quiet invariant bound repeats loads es may fair (bound_of g v.taken) 0 (omega arith) in
@@ -188,7 +189,8 @@ module _ (g : Grammar) (f : ℕ → ℕ) where
         config = c;
         taken = e;
         answers = λ m l x.
-            ap (λ (s : World). answer_to (choose g (site_at s (home g (node_of x))) x)) (same-from invariant bound repeats loads es may n m quiet l ∙ sym same) ∙ (there x ∙ ap (λ c. answer g c x) one);
+            ap (λ (s : World). answer_to (choose g (site_at s (home g (node_of x))) x)) (same-from invariant bound repeats loads es may n m quiet l
+            ∙ sym same) ∙ (there x ∙ ap (λ c. answer g c x) one);
       }
 
 pub fair_delivery_settles : (g : Grammar) → InvariantHolds g → MessagesAreBounded g → Repeats g → QuietHolds g → QuietAnswers g → FairDeliverySettles g

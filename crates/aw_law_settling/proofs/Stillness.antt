@@ -117,11 +117,18 @@ module _ (g : Grammar) (invariant : InvariantHolds g) where
 
     -- a quiet world with the same sites and the same choices
     quiet-one : (loads : Bool) (es : List Move) → Each (MayCome g) es → IsStill g (world_after g loads es)
-        → (fs : List Move) × Each (MayCome g) fs × IsQuiet (world_after g loads fs) × ((world_after g loads fs).sites ≡ (world_after g loads es).sites) × ((world_after g loads fs).taken ≡ (world_after g loads es).taken)
+        → (fs : List Move) × Each (MayCome g) fs × IsQuiet (world_after g loads fs)
+        × ((world_after g loads fs).sites ≡ (world_after g loads es).sites) × ((world_after g loads fs).taken ≡ (world_after g loads es).taken)
     quiet-one loads es may still =
         let (ks, q, s, t) = still_becomes_quiet loads es may still in
-        let e : run g (world_after g loads es) (map Delivers ks) ≡ world_after g loads (es ++ map Delivers ks) = sym (run_both g (empty_world g loads) es (map Delivers ks)) in
-        (es ++ map Delivers ks, each_append (MayCome g) es (map Delivers ks) may (may-deliver g ks), subst IsQuiet e q, ap (λ (v : World). v.sites) (sym e) ∙ s, ap (λ (v : World). v.taken) (sym e) ∙ t)
+        let e : run g (world_after g loads es) (map Delivers ks) ≡ world_after g loads (es ++ map Delivers ks) = sym (run_both g (empty_world g loads) es (map Delivers ks)) in (
+          es ++ map Delivers ks,
+          each_append (MayCome g) es (map Delivers ks) may (may-deliver g ks),
+          subst IsQuiet e q,
+          ap (λ (v : World). v.sites)
+              (sym e) ∙ s,
+          ap (λ (v : World). v.taken) (sym e) ∙ t,
+        )
 
     pub still_holds : Headline g → StillHolds g
     still_holds headline loads es may still ds same d u =

@@ -38,7 +38,10 @@ formed = record {
   sorts_differ = (((λ e. absurd cc), tt), (tt, tt));
   rules_differ = (((λ e. let z : 99 ≡ 98 = ap (λ xs. get 0 xs 0) e in absurd (omega (arith, z))), tt), (tt, tt));
   arities = (omega arith, (omega arith, tt));
-  sorts = (record { declared = omega arith; few_takes = omega arith; few_gives = omega arith; start = λ e. refl }, (record { declared = omega arith; few_takes = omega arith; few_gives = omega arith; start = λ e. absurd cc }, tt));
+  sorts = (
+    record { declared = omega arith; few_takes = omega arith; few_gives = omega arith; start = λ e. refl },
+    (record { declared = omega arith; few_takes = omega arith; few_gives = omega arith; start = λ e. absurd cc }, tt),
+  );
   rules = (calls_fits, (body_fits, tt));
 }
   where
@@ -83,7 +86,8 @@ body_from : (v : ℕ) (o : Occ) → get None (entries body) v ≡ Some o → (v 
 body_from zero o e = (refl, sym (same_Some _ _ e))
 body_from (suc v) o e = absurd cc
 
-body_to : (k : ℕ) (b : Bool) (n : ℕ) (t : Term) → term_at body (record { child = k; result = b; number = n }) ≡ Some t → In 0 t → ◌≡◌ {A = Occ} (record { child = k; result = b; number = n }) (given 0 1)
+body_to : (k : ℕ) (b : Bool) (n : ℕ) (t : Term) → term_at body (record { child = k; result = b; number = n }) ≡ Some t → In 0 t →
+    ◌≡◌ {A = Occ} (record { child = k; result = b; number = n }) (given 0 1)
 body_to zero true zero t e i = absurd cc
 body_to zero true (suc zero) t e i = refl
 body_to zero true (suc (suc zero)) t e i = never (subst (In 0) (sym (same_Some _ _ e)) i)

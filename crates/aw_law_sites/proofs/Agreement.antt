@@ -28,27 +28,35 @@ same_answer k (Takes r xs) (Refused b) l = never l
 same_answer k (Takes r xs) Starts l = never l
 
 module _ (w : Words) (g : Grammar) (accepted : IsAccepted w g) where
-  in_step : (v : Joint) (c : Config) (o : Option Joint) (o' : Option Config) → LikeStates g (given_of w g accepted.0) (variables_enter w g accepted.0) accepted.1 o o' → o ≡ Some v → o' ≡ Some c → Lockstep g (given_of w g accepted.0) (variables_enter w g accepted.0) accepted.1 v c
+  in_step : (v : Joint) (c : Config) (o : Option Joint) (o' : Option Config) → LikeStates g (given_of w g accepted.0) (variables_enter w g accepted.0)
+      accepted.1 o o' → o ≡ Some v → o' ≡ Some c → Lockstep g (given_of w g accepted.0) (variables_enter w g accepted.0) accepted.1 v c
   in_step v c None o' l e f = absurd cc
   in_step v c (Some u) None l e f = absurd cc
   in_step v c (Some u) (Some d) l e f =
       let p : u ≡ v = cc in
       let q : d ≡ c = cc in
-      subst (λ u. Lockstep g (given_of w g accepted.0) (variables_enter w g accepted.0) accepted.1 u c) p (subst (λ d. Lockstep g (given_of w g accepted.0) (variables_enter w g accepted.0) accepted.1 u d) q l)
+      subst (λ u. Lockstep g (given_of w g accepted.0) (variables_enter w g accepted.0) accepted.1 u c) p
+      (subst (λ d. Lockstep g (given_of w g accepted.0) (variables_enter w g accepted.0) accepted.1 u d) q l)
 
   pub flat_law : FlatIsSubstitution g
   flat_law cs = flat_is_substitution g (given_of w g accepted.0) (variables_enter w g accepted.0) accepted.1 cs
 
-  reached_in_step : (cs : List Choice) (v : Joint) (c : Config) → joint_run g empty_joint cs ≡ Some v → undivided g [] cs ≡ Some c → Lockstep g (given_of w g accepted.0) (variables_enter w g accepted.0) accepted.1 v c
-  reached_in_step cs v c e f = in_step v c (joint_run g empty_joint cs) (undivided g [] cs) (run_lockstep g (given_of w g accepted.0) (variables_enter w g accepted.0) accepted.1 cs empty_joint [] (empty_lockstep g (given_of w g accepted.0) (variables_enter w g accepted.0) accepted.1)) e f
+  reached_in_step : (cs : List Choice) (v : Joint) (c : Config) → joint_run g empty_joint cs ≡ Some v → undivided g [] cs ≡ Some c →
+      Lockstep g (given_of w g accepted.0) (variables_enter w g accepted.0) accepted.1 v c
+  reached_in_step cs v c e f = in_step v c (joint_run g empty_joint cs) (undivided g [] cs) (run_lockstep g (given_of w g accepted.0)
+      (variables_enter w g accepted.0) accepted.1 cs empty_joint [] (empty_lockstep g (given_of w g accepted.0)
+      (variables_enter w g accepted.0) accepted.1)) e f
 
   pub steps_law : StepsAgree g
   steps_law cs v c e f x =
       let l = reached_in_step cs v c e f in
-      weaken g (given_of w g accepted.0) (variables_enter w g accepted.0) accepted.1 (joint_taken v x (joint_outcome v g x)) (taken g c x (outcome g c x)) (step_lockstep g (given_of w g accepted.0) (variables_enter w g accepted.0) accepted.1 v c l x (joint_outcome v g x) (outcome g c x) refl refl (answers_agree g (given_of w g accepted.0) (variables_enter w g accepted.0) accepted.1 v c l x))
+      weaken g (given_of w g accepted.0) (variables_enter w g accepted.0) accepted.1 (joint_taken v x (joint_outcome v g x))
+      (taken g c x (outcome g c x)) (step_lockstep g (given_of w g accepted.0) (variables_enter w g accepted.0) accepted.1 v c l x
+      (joint_outcome v g x) (outcome g c x) refl refl (answers_agree g (given_of w g accepted.0) (variables_enter w g accepted.0) accepted.1 v c l x))
 
   pub answers_law : AnswersAgree g
-  answers_law cs v c e f x = same_answer v.equations (joint_outcome v g x) (outcome g c x) (answers_agree g (given_of w g accepted.0) (variables_enter w g accepted.0) accepted.1 v c (reached_in_step cs v c e f) x)
+  answers_law cs v c e f x = same_answer v.equations (joint_outcome v g x) (outcome g c x) (answers_agree g (given_of w g accepted.0)
+      (variables_enter w g accepted.0) accepted.1 v c (reached_in_step cs v c e f) x)
 
   run_acyclic : (v : Joint) (o : Option Joint) (o' : Option Config) → LikeStates g (given_of w g accepted.0) (variables_enter w g accepted.0) accepted.1 o o' → o ≡ Some v → AreAcyclic v.equations
   run_acyclic v None o' l e = absurd cc
@@ -56,7 +64,8 @@ module _ (w : Words) (g : Grammar) (accepted : IsAccepted w g) where
   run_acyclic v (Some u) (Some d) l e = let p : u ≡ v = cc in subst (λ (u : Joint). AreAcyclic u.equations) p (acyclic u.equations d l.values)
 
   pub acyclic_law : EquationsAreAcyclic g
-  acyclic_law cs v e = run_acyclic v (joint_run g empty_joint cs) (undivided g [] cs) (run_lockstep g (given_of w g accepted.0) (variables_enter w g accepted.0) accepted.1 cs empty_joint [] (empty_lockstep g (given_of w g accepted.0) (variables_enter w g accepted.0) accepted.1)) e
+  acyclic_law cs v e = run_acyclic v (joint_run g empty_joint cs) (undivided g [] cs) (run_lockstep g (given_of w g accepted.0)
+      (variables_enter w g accepted.0) accepted.1 cs empty_joint [] (empty_lockstep g (given_of w g accepted.0) (variables_enter w g accepted.0) accepted.1)) e
 
   pub order_law : AnyOrder g
   order_law cs ds same c d e f = same_configuration g (given_of w g accepted.0) (variables_enter w g accepted.0) accepted.1 cs ds same.0 same.1 c d e f

@@ -13,7 +13,8 @@ use Rattle.aw_store.specs.Equations.{Body, Equation, Map, find}
 use Rattle.aw_store.specs.Refs.{ref_eq}
 use Rattle.aw_apply.specs.Made.{Making, Call, made}
 use Rattle.aw_apply.specs.Guard.{guard_all}
-use Rattle.aw_law_sites.specs.Joint.{Held, held_of, insert_held, insert_all, mark, root_held, called_held, by_rule, by_state, by_held, Joint, empty_joint, joint_outcome, add_made, joint_taken, joint_run}
+use Rattle.aw_law_sites.specs.Joint.{Held, held_of, insert_held, insert_all, mark, root_held, called_held, by_rule, by_state, by_held, Joint}
+use Rattle.aw_law_sites.specs.Joint.{empty_joint, joint_outcome, add_made, joint_taken, joint_run}
 use Rattle.aw_accept.proofs.ConfigLemmas.{insert_cases, inserted_cases}
 use Rattle.aw_store.proofs.MoreEquations.{find-left_more, find-right_more, Holds, Holds-wider}
 use Rattle.aw_apply.proofs.Numbering.{made-holds}
@@ -40,17 +41,20 @@ pub record Took (g : Grammar) (w : Joint) (n : Node) (r : ℕ) (args : List Grou
   pub rule_is : slice_get g.rules r ≡ Some rule
   pub yes : guard_all w.equations 1 rule.patterns held.inherited ≡ Yes bound
 
-pub rule-takes : (g : Grammar) (o : Option Rule) (k : Map) (n : Node) (args : List Ground) (q : Held) (rule : Rule) (bound : List Ref) → by_rule o k n args q ≡ Takes rule bound → (o ≡ Some rule) × (guard_all k 1 rule.patterns q.inherited ≡ Yes bound)
+pub rule-takes : (g : Grammar) (o : Option Rule) (k : Map) (n : Node) (args : List Ground) (q : Held) (rule : Rule) (bound : List Ref) →
+    by_rule o k n args q ≡ Takes rule bound → (o ≡ Some rule) × (guard_all k 1 rule.patterns q.inherited ≡ Yes bound)
 rule-takes g None k n args q rule bound e = absurd cc
 rule-takes g (Some ru) k n args q rule bound e =
     let (p, a, b, y) = tests-take n ru q.sort args (guard_all k 1 ru.patterns q.inherited) rule bound e in
     (ap Some p, subst (λ (ru : Rule). guard_all k 1 ru.patterns q.inherited ≡ Yes bound) p y)
 
-pub state-takes : (g : Grammar) (s : State) (k : Map) (n : Node) (r : ℕ) (args : List Ground) (q : Held) (rule : Rule) (bound : List Ref) → by_state s g k n r args q ≡ Takes rule bound → (s ≡ Pending) × (slice_get g.rules r ≡ Some rule) × (guard_all k 1 rule.patterns q.inherited ≡ Yes bound)
+pub state-takes : (g : Grammar) (s : State) (k : Map) (n : Node) (r : ℕ) (args : List Ground) (q : Held) (rule : Rule) (bound : List Ref) →
+    by_state s g k n r args q ≡ Takes rule bound → (s ≡ Pending) × (slice_get g.rules r ≡ Some rule) × (guard_all k 1 rule.patterns q.inherited ≡ Yes bound)
 state-takes g (Done a b) k n r args q rule bound e = absurd cc
 state-takes g Pending k n r args q rule bound e = let (a, b) = rule-takes g (slice_get g.rules r) k n args q rule bound e in (refl, a, b)
 
-pub held-takes : (g : Grammar) (w : Joint) (o : Option Held) (n : Node) (r : ℕ) (args : List Ground) (rule : Rule) (bound : List Ref) → held_of n w.held ≡ o → by_held o g w.equations n r args ≡ Takes rule bound → Took g w n r args rule bound
+pub held-takes : (g : Grammar) (w : Joint) (o : Option Held) (n : Node) (r : ℕ) (args : List Ground) (rule : Rule) (bound : List Ref) →
+    held_of n w.held ≡ o → by_held o g w.equations n r args ≡ Takes rule bound → Took g w n r args rule bound
 held-takes g w None n r args rule bound f e = absurd cc
 held-takes g w (Some q) n r args rule bound f e =
     let (a, b, c) = state-takes g q.state w.equations n r args q rule bound e in
@@ -92,7 +96,8 @@ Fixed g w (Develop n r args) =
 IsPartOf-at : (v w : Joint) → IsPartOf v w → (h : Held) → Is_at h v.held → Is_at h w.held
 IsPartOf-at v w p h (h', m, a, b, c, s) = let (h'', m', a', b', c', s') = p.held h' m in (h'', m', a ∙ a', b ∙ b', c ∙ c', goes_on h.state h'.state h''.state s s')
 
-pub yes-kept : (k k' : Map) → ((r : Ref) (b : Body) → find k r ≡ Some b → find k' r ≡ Some b) → (ps : List Term) (rs bound : List Ref) → guard_all k 1 ps rs ≡ Yes bound → guard_all k' 1 ps rs ≡ Yes bound
+pub yes-kept : (k k' : Map) → ((r : Ref) (b : Body) → find k r ≡ Some b → find k' r ≡ Some b) → (ps : List Term) (rs bound : List Ref) →
+    guard_all k 1 ps rs ≡ Yes bound → guard_all k' 1 ps rs ≡ Yes bound
 yes-kept k k' f ps rs bound e = guard_all-keeps k k' f 1 ps rs (subst (Final k') (sym e) tt) ∙ e
 
 pub Fixed-more : (g : Grammar) (v w : Joint) → IsPartOf v w → (c : Choice) → Fixed g v c → Fixed g w c
@@ -133,7 +138,8 @@ Member-all_held y (r ∷ rs) c (inl (inl e)) = Member-all_held y rs (insert_held
 Member-all_held y (r ∷ rs) c (inl (inr m)) = Member-all_held y rs (insert_held r c) (inl m)
 Member-all_held y (r ∷ rs) c (inr m) = Member-all_held y rs (insert_held r c) (inr (Member-inserted_held y r c (inr m)))
 
-mark_cases : (b : Bool) (s : State) (q : Held) → ((cond b (record q { state = s }) q).node ≡ q.node) × ((cond b (record q { state = s }) q).sort ≡ q.sort) × ((cond b (record q { state = s }) q).inherited ≡ q.inherited)
+mark_cases : (b : Bool) (s : State) (q : Held) → ((cond b (record q { state = s }) q).node ≡ q.node)
+    × ((cond b (record q { state = s }) q).sort ≡ q.sort) × ((cond b (record q { state = s }) q).inherited ≡ q.inherited)
 mark_cases true s q = (refl, refl, refl)
 mark_cases false s q = (refl, refl, refl)
 
@@ -154,11 +160,19 @@ mark_done n s q e = ap (λ b. (cond b (record q { state = s }) q).state) (subst 
 
 add_made-part : (w : Joint) (n : Node) (s : State) (m : Making) → ((h : Held) → Member h w.held → h.node ≡ n → h.state ≡ Pending) → IsPartOf w (add_made w n s m)
 add_made-part w n s m f = record {
-  held = λ h o. let (a, b, c) = marked n s h in (mark n s h, Member-all_held _ (map called_held m.calls) _ (inr (member_map (mark n s) h w.held o)), sym a, sym b, sym c, mark_state (node_eq n h.node) s h (λ e. f h o (sym (node_is n h.node e))));
+  held = λ h o. let (a, b, c) = marked n s h in (
+    mark n s h,
+    Member-all_held _ (map called_held m.calls) _ (inr (member_map (mark n s) h w.held o)),
+    sym a,
+    sym b,
+    sym c,
+    mark_state (node_eq n h.node) s h (λ e. f h o (sym (node_is n h.node e))),
+  );
   equations = find-left_more w.equations m.equations;
 }
 
-in_cases : (t : Bool) (k es : Map) (x : Ref) (q : Equation) (b : Body) → ref_eq x q.left ≡ t → find k q.left ≡ Some q.body → (find es x ≡ Some b → find k x ≡ Some b) → cond t (Some q.body) (find es x) ≡ Some b → find k x ≡ Some b
+in_cases : (t : Bool) (k es : Map) (x : Ref) (q : Equation) (b : Body) → ref_eq x q.left ≡ t → find k q.left ≡ Some q.body →
+    (find es x ≡ Some b → find k x ≡ Some b) → cond t (Some q.body) (find es x) ≡ Some b → find k x ≡ Some b
 in_cases true k es x q b f h ih g = ap (find k) (ref_eq-true x q.left f) ∙ h ∙ g
 in_cases false k es x q b f h ih g = ih g
 
@@ -201,7 +215,15 @@ step_fixed g w (Develop n r args) (Takes rule bound) w' f e t =
         subst (λ i. guard_all (w.equations ++ (made n r rule args bound).equations) 1 rule.patterns i ≡ Yes bound) (sym c)
             (yes-kept w.equations (w.equations ++ (made n r rule args bound).equations) (find-left_more w.equations (made n r rule args bound).equations) rule.patterns T.held.inherited bound T.yes),
         made-holds w.equations n r rule args bound free,
-        λ c o. (called_held c, Member-all_held (called_held c) (map called_held (made n r rule args bound).calls) (map (mark n (Done r args)) w.held) (inl (member_map called_held c (made n r rule args bound).calls o)), refl, refl, refl, inr refl),
+        λ c o. (
+          called_held c,
+          Member-all_held (called_held c) (map called_held (made n r rule args bound).calls) (map (mark n (Done r args)) w.held)
+              (inl (member_map called_held c (made n r rule args bound).calls o)),
+          refl,
+          refl,
+          refl,
+          inr refl,
+        ),
       ),
     )
 
@@ -210,7 +232,8 @@ marked_on true s d u g f = inr (sym (f refl))
 marked_on false s d u g f = g
 
 -- from a part of w, a choice that is fixed in w leads to a part of w
-step_part : (g : Grammar) (v : Joint) (c : Choice) (o : Outcome Ref Ref) (v' w : Joint) → ((h h' : Held) → Member h w.held → Member h' w.held → h.node ≡ h'.node → h ≡ h') → joint_outcome v g c ≡ o → joint_taken v c o ≡ Some v' → IsPartOf v w → Fixed g w c → IsPartOf v' w
+step_part : (g : Grammar) (v : Joint) (c : Choice) (o : Outcome Ref Ref) (v' w : Joint) → ((h h' : Held) → Member h w.held → Member h' w.held →
+    h.node ≡ h'.node → h ≡ h') → joint_outcome v g c ≡ o → joint_taken v c o ≡ Some v' → IsPartOf v w → Fixed g w c → IsPartOf v' w
 step_part g v c (Refused a) v' w one_each e t p f = absurd cc
 step_part g v (Start s k) Starts v' w one_each e t p f =
     subst (λ v. IsPartOf v w) (same_Some _ _ t) (record {
@@ -226,7 +249,8 @@ step_part g v (Develop n r args) (Takes rule bound) v' w one_each e t p (h, rule
     let rl : rule ≡ rule' = same_Some _ _ (sym T.rule_is ∙ ru) in
     let inh : T.held.inherited ≡ h.inherited = c ∙ ap (λ (h : Held). h.inherited) same in
     let y1 = yes-kept v.equations w.equations p.equations rule.patterns T.held.inherited bound T.yes in
-    let y2 : guard_all w.equations 1 rule'.patterns h.inherited ≡ Yes bound = subst (λ i. guard_all w.equations 1 rule'.patterns i ≡ Yes bound) inh (subst (λ (u : Rule). guard_all w.equations 1 u.patterns T.held.inherited ≡ Yes bound) rl y1) in
+    let y2 : guard_all w.equations 1 rule'.patterns h.inherited ≡ Yes bound = subst (λ i. guard_all w.equations 1 rule'.patterns i ≡ Yes bound) inh
+    (subst (λ (u : Rule). guard_all w.equations 1 u.patterns T.held.inherited ≡ Yes bound) rl y1) in
     let bd : bound ≡ bound' = yes-inj (sym y2 ∙ y) in
     let mk : made n r rule args bound ≡ made n r rule' args bound' = λ i. made n r (rl i) args (bd i) in
     let hs' = subst (λ (m : Making). Holds w.equations m.equations) (sym mk) hs in
@@ -242,14 +266,17 @@ step_part g v (Develop n r args) (Takes rule bound) v' w one_each e t p (h, rule
               ap (λ (h : Held). h.node) q ∙ a' ∙ a2,
               ap (λ (h : Held). h.sort) q ∙ b' ∙ b2,
               ap (λ (h : Held). h.inherited) q ∙ c' ∙ c2,
-              subst (λ t. Goes_on t u.state) (sym (ap (λ (h : Held). h.state) q)) (marked_on (node_eq n d.node) (Done r args) d u s2 (λ e. let du = one_each u h mu m (sym a2 ∙ sym (node_is n d.node e) ∙ sym nd) in ap (λ (h : Held). h.state) du ∙ sd)),
+              subst (λ t. Goes_on t u.state) (sym (ap (λ (h : Held). h.state) q)) (marked_on (node_eq n d.node) (Done r args) d u s2
+                  (λ e. let du = one_each u h mu m (sym a2 ∙ sym (node_is n d.node e) ∙ sym nd) in ap (λ (h : Held). h.state) du ∙ sd)),
             ))
       ];
-      equations = λ x b e. elim (option_cases v.equations (made n r rule args bound).equations x b (find v.equations x) refl e) [ inl z ↦ p.equations x b z | inr z ↦ find-in_holds w.equations (made n r rule args bound).equations x b hs' z ];
+      equations = λ x b e. elim (option_cases v.equations (made n r rule args bound).equations x b (find v.equations x) refl e)
+          [ inl z ↦ p.equations x b z | inr z ↦ find-in_holds w.equations (made n r rule args bound).equations x b hs' z ];
     })
 
 module _ (g : Grammar) (Fit : Joint → Type 0) (fit_of : (w : Joint) → Fit w → IsFit w) (keep : (w w' : Joint) (c : Choice) → Fit w → joint_taken w c (joint_outcome w g c) ≡ Some w' → Fit w') where
-  first_taken : (w : Joint) (c : Choice) (cs : List Choice) (z : Joint) → joint_run g w (c ∷ cs) ≡ Some z → (w' : Joint) × (joint_taken w c (joint_outcome w g c) ≡ Some w') × (joint_run g w' cs ≡ Some z)
+  first_taken : (w : Joint) (c : Choice) (cs : List Choice) (z : Joint) → joint_run g w (c ∷ cs) ≡ Some z → (w' : Joint)
+      × (joint_taken w c (joint_outcome w g c) ≡ Some w') × (joint_run g w' cs ≡ Some z)
   first_taken w c cs z e = option_and_then_some (λ v. joint_run g v cs) (joint_taken w c (joint_outcome w g c)) z e (λ w' t f. (w', t, f))
 
   run_part : (w : Joint) (cs : List Choice) (z : Joint) → Fit w → joint_run g w cs ≡ Some z → IsPartOf w z × Fit z
@@ -276,7 +303,8 @@ module _ (g : Grammar) (Fit : Joint → Type 0) (fit_of : (w : Joint) → Fit w 
       run_within v' ds y w f (step_part g v d (joint_outcome v g d) v' w (fit_of w f).apart refl t p (h d (inl refl))) (λ d m. h d (inr m)) e'
 
   -- any order: each is a part of the other
-  pub any_order : Fit (empty_joint) → (cs ds : List Choice) (w v : Joint) → ((d : Choice) → Member d ds → Member d cs) → joint_run g empty_joint cs ≡ Some w → joint_run g empty_joint ds ≡ Some v → IsPartOf v w
+  pub any_order : Fit (empty_joint) → (cs ds : List Choice) (w v : Joint) → ((d : Choice) → Member d ds → Member d cs) →
+      joint_run g empty_joint cs ≡ Some w → joint_run g empty_joint ds ≡ Some v → IsPartOf v w
   any_order z cs ds w v h e f =
       run_within (empty_joint) ds v w (run_part (empty_joint) cs w z e).1 (record { held = λ h m. never m; equations = λ r b e. absurd cc })
       (λ d m. run_fixed (empty_joint) cs w z e d (h d m)) f

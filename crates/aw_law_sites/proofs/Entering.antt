@@ -30,16 +30,37 @@ leaf_of (u ∷ ts) t v (inr m) i = member_right v (leaves u) (leaves_of ts) (lea
 length-pattern_entries : (i : ℕ) (ps : List Term) → length (pattern_entries i ps) ≡ length (leaves_of ps)
 length-pattern_entries i [] = refl
 length-pattern_entries i (p ∷ ps) =
-    omega (arith, length-append (map (λ v. Some (inherited 0 i)) (leaves p)) (pattern_entries (suc i) ps), length-map (leaves p) (λ v. Some (inherited 0 i)), length-pattern_entries (suc i) ps, length-append (leaves p) (leaves_of ps))
+    omega (
+      arith,
+      length-append (map (λ v. Some (inherited 0 i)) (leaves p)) (pattern_entries (suc i) ps),
+      length-map (leaves p)
+          (λ v. Some (inherited 0 i)),
+      length-pattern_entries (suc i) ps,
+      length-append (leaves p) (leaves_of ps),
+    )
 
 length-child_entries : (k : ℕ) (cs : List Child) → length (child_entries k cs) ≡ outs_of cs
 length-child_entries k [] = refl
 length-child_entries k (c ∷ cs) =
-    omega (arith, length-append (map (λ l. Some (given k l)) (upto 1 c.outs)) (child_entries (suc k) cs), length-map (upto 1 c.outs) (λ l. Some (given k l)), length-upto 1 c.outs, length-child_entries (suc k) cs)
+    omega (
+      arith,
+      length-append (map (λ l. Some (given k l)) (upto 1 c.outs)) (child_entries (suc k) cs),
+      length-map (upto 1 c.outs)
+          (λ l. Some (given k l)),
+      length-upto 1 c.outs,
+      length-child_entries (suc k) cs,
+    )
 
 pub length-entries : (r : Rule) → length (entries r) ≡ variables r
 length-entries r =
-    omega (arith, length-append (pattern_entries 1 r.patterns) (replicate r.params None ++ child_entries 1 r.children), length-append (replicate r.params None) (child_entries 1 r.children), length-pattern_entries 1 r.patterns, length-child_entries 1 r.children, length-replicate {A = Option Occ} r.params None)
+    omega (
+      arith,
+      length-append (pattern_entries 1 r.patterns) (replicate r.params None ++ child_entries 1 r.children),
+      length-append (replicate r.params None) (child_entries 1 r.children),
+      length-pattern_entries 1 r.patterns,
+      length-child_entries 1 r.children,
+      length-replicate {A = Option Occ} r.params None,
+    )
 
 enters : (g : Grammar) (r : Rule) → RuleFits g r → (t : Term) → IsTermOf r t → (v : ℕ) → In v t → v < variables r
 enters g r fits t (inl m) v i = each_member (λ v. v < variables r) (leaves_of r.results) v fits.enter (leaf_of r.results t v m i)

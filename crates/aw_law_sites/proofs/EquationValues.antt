@@ -54,20 +54,26 @@ module _ {L : Type 0} (k : Map) (c : Config) (n : Node) (f : L → Ref) where
         let ((us, ds, os), fs) = lays-values ts a.next (Holds-right k a.equations b.equations h) (λ x y. g x (inr y)) in
         ((More u us, one d ds, λ h w. elim w [ inl v ↦ o h v | inr v ↦ os h v ]), each_append (λ (e : Equation). HasValue k c e.left) a.equations b.equations es fs)
 
-  pub lay_list-values : (ts : List (Tree L)) (i : ℕ) → Holds k (lay_list n f i ts).equations → ((t : Tree L) → Member t ts → (x : L) → In x t → HasValue k c (f x)) → LeftValues (lay_list n f i ts).equations
+  pub lay_list-values : (ts : List (Tree L)) (i : ℕ) → Holds k (lay_list n f i ts).equations → ((t : Tree L) → Member t ts → (x : L) → In x t →
+      HasValue k c (f x)) → LeftValues (lay_list n f i ts).equations
   lay_list-values [] i h g = tt
   lay_list-values (t ∷ ts) i h g =
       let a = lay n f i t in
       let b = lay_list n f a.next ts in
-      each_append (λ (e : Equation). HasValue k c e.left) a.equations b.equations (lay-values t i (Holds-left k a.equations b.equations h) (g t (inl refl))).1 (lay_list-values ts a.next (Holds-right k a.equations b.equations h) (λ t m. g t (inr m)))
+      each_append (λ (e : Equation). HasValue k c e.left) a.equations b.equations (lay-values t i (Holds-left k a.equations b.equations h)
+      (g t (inl refl))).1 (lay_list-values ts a.next (Holds-right k a.equations b.equations h) (λ t m. g t (inr m)))
 
 module _ (k : Map) (c : Config) (n : Node) (f : ℕ → Ref) where
-  lay_children-values : (ri : ℕ) (cs : List Child) (i l : ℕ) → Holds k (lay_children n ri f i l cs).equations → ((d : Child) → Member d cs → (t : Term) → Member t d.args → (v : ℕ) → In v t → HasValue k c (f v)) → LeftValues k c n f (lay_children n ri f i l cs).equations
+  lay_children-values : (ri : ℕ) (cs : List Child) (i l : ℕ) → Holds k (lay_children n ri f i l cs).equations →
+      ((d : Child) → Member d cs → (t : Term) → Member t d.args → (v : ℕ) → In v t → HasValue k c (f v)) →
+      LeftValues k c n f (lay_children n ri f i l cs).equations
   lay_children-values ri [] i l h g = tt
   lay_children-values ri (d ∷ cs) i l h g =
       let a = lay_list n f l d.args in
       let b = lay_children n ri f (suc i) a.next cs in
-      each_append (λ (e : Equation). HasValue k c e.left) a.equations b.equations (lay_list-values k c n f d.args l (Holds-left k a.equations b.equations h) (g d (inl refl))) (lay_children-values ri cs (suc i) a.next (Holds-right k a.equations b.equations h) (λ d m. g d (inr m)))
+      each_append (λ (e : Equation). HasValue k c e.left) a.equations b.equations
+      (lay_list-values k c n f d.args l (Holds-left k a.equations b.equations h) (g d (inl refl))) (lay_children-values ri cs (suc i) a.next
+      (Holds-right k a.equations b.equations h) (λ d m. g d (inr m)))
 
   lay_result-values : (t : Term) (i j : ℕ) → Holds k (lay_result n f i j t).equations → ((v : ℕ) → In v t → HasValue k c (f v)) → LeftValues k c n f (lay_result n f i j t).equations
   lay_result-values (Leaf v) i j h g = let (u, d, o) = g v refl in ((u, same h.0 d, o), tt)
@@ -78,7 +84,8 @@ module _ (k : Map) (c : Config) (n : Node) (f : ℕ → Ref) where
   lay_results-values (t ∷ ts) i j h g =
       let a = lay_result n f i j t in
       let b = lay_results n f a.next (suc j) ts in
-      each_append (λ (e : Equation). HasValue k c e.left) a.equations b (lay_result-values t i j (Holds-left k a.equations b h) (g t (inl refl))) (lay_results-values ts a.next (suc j) (Holds-right k a.equations b h) (λ t m. g t (inr m)))
+      each_append (λ (e : Equation). HasValue k c e.left) a.equations b (lay_result-values t i j (Holds-left k a.equations b h) (g t (inl refl)))
+      (lay_results-values ts a.next (suc j) (Holds-right k a.equations b h) (λ t m. g t (inr m)))
 
 module _ (rel : ℕ → ℕ → ℕ → Type 0) (c : Config) (q : Row) (ri : ℕ) (r : Rule) (bs : List Value) (args : List Ground) (k : Map) (bound : List Ref) (T : FlatTaking rel c q ri r bs args k bound) where
   abbrev after : Config
@@ -123,7 +130,8 @@ module _ (rel : ℕ → ℕ → ℕ → Type 0) (c : Config) (q : Row) (ri : ℕ
       each_append (λ (e : Equation). HasValue more_ after e.left) a.equations (d.equations ++ e)
       (lay_list-values more_ after q.node (λ (x : Never). elim x [ ]) args 1 (Holds-left more_ a.equations (d.equations ++ e) h) (λ t m x i. never x))
       (each_append (λ (e : Equation). HasValue more_ after e.left) d.equations e
-      (lay_children-values more_ after q.node f ri r.children 1 a.next (Holds-left more_ d.equations e h') (λ d m t n v i. let (l, lt, z) = member_place r.children d m in term_values t (inr (l, d, z, n)) v i))
+      (lay_children-values more_ after q.node f ri r.children 1 a.next (Holds-left more_ d.equations e h') (λ d m t n v i. let (l, lt, z) =
+      member_place r.children d m in term_values t (inr (l, d, z, n)) v i))
       (lay_results-values more_ after q.node f r.results d.next 1 (Holds-right more_ d.equations e h') (λ t m v i. term_values t (inl m) v i)))
 
   left_at : (es : List Equation) (x : Ref) → LeftValues more_ after q.node f es → Member x (lefts es) → HasValue more_ after x

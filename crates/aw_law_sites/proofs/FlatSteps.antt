@@ -52,7 +52,8 @@ get-term f [] j lt = absurd (omega arith)
 get-term f (t ∷ ts) zero lt = (t, refl, refl)
 get-term f (t ∷ ts) (suc j) lt = get-term f ts j (omega arith)
 
-result-holds : (k : Map) (n : Node) (f : ℕ → Ref) (ts : List Term) (i j l : ℕ) (t : Term) → slice_get ts l ≡ Some t → Holds k (lay_results n f i j ts) → (i' : ℕ) × Holds k (lay_result n f i' (j + l) t).equations
+result-holds : (k : Map) (n : Node) (f : ℕ → Ref) (ts : List Term) (i j l : ℕ) (t : Term) → slice_get ts l ≡ Some t →
+    Holds k (lay_results n f i j ts) → (i' : ℕ) × Holds k (lay_result n f i' (j + l) t).equations
 result-holds k n f [] i j l t e h = absurd cc
 result-holds k n f (u ∷ ts) i j zero t e h =
     let z : j ≡ j + 0 = omega arith in
@@ -105,7 +106,8 @@ module _ (rel : ℕ → ℕ → ℕ → Type 0) (c : Config) (q : Row) (ri : ℕ
   left_own = let (e, a) = made-apart n ri r args bound in each_map (Lies n 1 e 1 (1 + length r.results)) (λ (e : Equation). e.left.node ≡ n) es (λ x l. l.0) a.lie
 
   pub elsewhere : (x : Ref) → (x.node ≡ n → Never) → find k x ≡ None → find k' x ≡ None
-  elsewhere x h f = find-right_more k es x f ∙ find-absent es x (each_map (λ (e : Equation). e.left.node ≡ n) (λ (e : Equation). x ≡ e.left → Never) es (λ e a p. h (ap (λ (r : Ref). r.node) p ∙ a)) left_own)
+  elsewhere x h f = find-right_more k es x f ∙ find-absent es x (each_map (λ (e : Equation). e.left.node ≡ n) (λ (e : Equation). x ≡ e.left → Never)
+      es (λ e a p. h (ap (λ (r : Ref). r.node) p ∙ a)) left_own)
 
   pub made_holds : Holds k' es
   made_holds = made-holds k n ri r args bound T.own_free
@@ -129,7 +131,8 @@ module _ (rel : ℕ → ℕ → ℕ → Type 0) (c : Config) (q : Row) (ri : ℕ
   args_ok [] i h = tt
   args_ok (t ∷ ts) i h =
       let a = lay n (λ (x : Never). elim x [ ]) i t in
-      let d = lay-unfolds k' n (λ (x : Never). elim x [ ]) (λ (x : Never). elim x [ ]) t i (Holds-left k' a.equations (lay_list n (λ (x : Never). elim x [ ]) a.next ts).equations h) (λ x w. elim x [ ]) in
+      let d = lay-unfolds k' n (λ (x : Never). elim x [ ]) (λ (x : Never). elim x [ ]) t i
+      (Holds-left k' a.equations (lay_list n (λ (x : Never). elim x [ ]) a.next ts).equations h) (λ x w. elim x [ ]) in
       (inr (λ m. subst (Unfolds k' a.roots) (sym (lift-rounds s t m)) d), args_ok ts a.next (Holds-right k' a.equations (lay_list n (λ (x : Never). elim x [ ]) a.next ts).equations h))
 
   pub child_ref_ok : (i j : ℕ) → Ok (result (below n ri i) j) (Leaf (result (below n ri i) j))
@@ -138,7 +141,9 @@ module _ (rel : ℕ → ℕ → ℕ → Type 0) (c : Config) (q : Row) (ri : ℕ
       let no : below n ri i ≡ n → Never = λ p. T.plain.fresh q T.plain.held i (sym p) in
       elim (node_cases (node_eq n (below n ri i)) n (below n ri i) refl) [
         | inl p ↦ never (no (sym p))
-        | inr e ↦ inr (λ m. subst (Unfolds k' (result (below n ri i) j)) (sym (rounds-leaf s m (result (below n ri i) j) (other_kept (result (below n ri i) j) e))) (missing (elsewhere (result (below n ri i) j) no (T.child_free (result (below n ri i) j) i refl))))
+        | inr e ↦ inr (λ m. subst (Unfolds k' (result (below n ri i) j))
+            (sym (rounds-leaf s m (result (below n ri i) j) (other_kept (result (below n ri i) j) e)))
+            (missing (elsewhere (result (below n ri i) j) no (T.child_free (result (below n ri i) j) i refl))))
       ]
 
   outs_ok : (i : ℕ) (js : List ℕ) → Pairs Ok (map (result (below n ri i)) js) (map (λ j. Leaf (result (below n ri i) j)) js)
@@ -147,7 +152,8 @@ module _ (rel : ℕ → ℕ → ℕ → Type 0) (c : Config) (q : Row) (ri : ℕ
 
   children_ok : (i : ℕ) (cs : List Child) → Pairs Ok (child_refs n ri i cs) (child_holes n ri i cs)
   children_ok i [] = tt
-  children_ok i (d ∷ cs) = Pairs-append Ok (map (result (below n ri i)) (upto 1 d.outs)) (holes (below n ri i) d.outs) (child_refs n ri (suc i) cs) (child_holes n ri (suc i) cs) (outs_ok i (upto 1 d.outs)) (children_ok (suc i) cs)
+  children_ok i (d ∷ cs) = Pairs-append Ok (map (result (below n ri i)) (upto 1 d.outs)) (holes (below n ri i) d.outs) (child_refs n ri (suc i) cs)
+      (child_holes n ri (suc i) cs) (outs_ok i (upto 1 d.outs)) (children_ok (suc i) cs)
 
   abbrev pub rest_laid : List Equation
   rest_laid =
@@ -205,10 +211,12 @@ module _ (rel : ℕ → ℕ → ℕ → Type 0) (c : Config) (q : Row) (ri : ℕ
       (λ y i b. let (a, w, ch) = In-rounds (length r.results) s y t i in no_own rel c q ri r bs args T.plain a y ch (inl (g a w)) b)
 
   -- a term that is laid down
-  pub term_changes : (t : Term) → IsTermOf r t → (i : ℕ) → Holds k' (lay n (get (part n 0) refs) i t).equations → Unfolds k' (lay n (get (part n 0) refs) i t).roots (rounds (length r.results) (bind s) (fill vals t))
+  pub term_changes : (t : Term) → IsTermOf r t → (i : ℕ) → Holds k' (lay n (get (part n 0) refs) i t).equations →
+      Unfolds k' (lay n (get (part n 0) refs) i t).roots (rounds (length r.results) (bind s) (fill vals t))
   term_changes t o i h =
       let M = length r.results in
-      let clean = λ (y : Ref) (j : In y (rounds (length r.results) (bind s) (fill vals t))) (b : Bad y). (let (a, w, ch) = In-rounds (length r.results) s y (fill vals t) j in no_own rel c q ri r bs args T.plain a y ch (fate_term rel c q ri r bs args T.plain t a w) b) in
+      let clean = λ (y : Ref) (j : In y (rounds (length r.results) (bind s) (fill vals t))) (b : Bad y). (let (a, w, ch) =
+      In-rounds (length r.results) s y (fill vals t) j in no_own rel c q ri r bs args T.plain a y ch (fate_term rel c q ri r bs args T.plain t a w) b) in
       let go = variables_go k k' s Good Bad (get (part n 0) refs) (get nothing vals) is_change M (substitute k k' s Good Bad (get (part n 0) refs) (get nothing vals) is_change M) t clean
       (λ v w. Pairs-get Ok (part n 0) nothing refs vals v all_ok (T.in_range t o v w)) in
       subst (Unfolds k' (lay n (get (part n 0) refs) i t).roots) (sym (rounds-bind s M (get nothing vals) t))

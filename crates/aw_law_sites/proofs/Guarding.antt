@@ -39,7 +39,8 @@ under-keeps l k (Waits r) m' f h = ap (under k) (f h)
 under-keeps l k (Circle r) m' f h = ap (under k) (f tt)
 
 module _ (k l : Map) (extends : (r : Ref) (b : Body) → find k r ≡ Some b → find l r ≡ Some b) where
-  end-keeps : (c : Chased) (go go' : List Ref → Matched Ref Ref) (h : Head) (n : ℕ) (r : Ref) → chase k r ≡ c → ((rs : List Ref) → Final l (go rs) → go' rs ≡ go rs) → Final l (guard_end c go h n r) → guard_end (chase l r) go' h n r ≡ guard_end c go h n r
+  end-keeps : (c : Chased) (go go' : List Ref → Matched Ref Ref) (h : Head) (n : ℕ) (r : Ref) → chase k r ≡ c →
+      ((rs : List Ref) → Final l (go rs) → go' rs ≡ go rs) → Final l (guard_end c go h n r) → guard_end (chase l r) go' h n r ≡ guard_end c go h n r
   end-keeps (Missing s) go go' h n r e g x = ap (λ z. guard_end z go' h n r) (missing-more k l extends r s x e)
   end-keeps Round go go' h n r e g x = ap (λ z. guard_end z go' h n r) (round-more k l extends r e)
   end-keeps (Found h' rs) go go' h n r e g x = ap (λ z. guard_end z go' h n r) (found-more k l extends r h' rs e) ∙ tested (head_eq h h' && nat_eq n (length rs)) x
@@ -143,8 +144,10 @@ module _ (k : Map) where
         subst (λ c. Like (guard_end c (guard_parts k 1 ps) h (count ps) r) (Waits s)) (sym (ends-chase k (At_missing s) x)) refl
     guard-match (Made h ps) r (Made h' ts) d =
         let (rs, n, x, a) = end_of d in
-        subst (λ c. Like (guard_end c (guard_parts k 1 ps) h (count ps) r) (cond (head_eq h h' && nat_eq (count ps) (count ts)) (match_parts 1 ps ts) (Differs []))) (sym (ends-chase k (At_body h' rs) x))
-        (subst (λ l. Like (cond (head_eq h h' && nat_eq (count ps) l) (guard_parts k 1 ps rs) (Differs [])) (cond (head_eq h h' && nat_eq (count ps) (count ts)) (match_parts 1 ps ts) (Differs []))) (sym (count-all a))
+        subst (λ c. Like (guard_end c (guard_parts k 1 ps) h (count ps) r) (cond (head_eq h h' && nat_eq (count ps) (count ts)) (match_parts 1 ps ts)
+        (Differs []))) (sym (ends-chase k (At_body h' rs) x))
+        (subst (λ l. Like (cond (head_eq h h' && nat_eq (count ps) l) (guard_parts k 1 ps rs) (Differs []))
+        (cond (head_eq h h' && nat_eq (count ps) (count ts)) (match_parts 1 ps ts) (Differs []))) (sym (count-all a))
         (like-cond (head_eq h h' && nat_eq (count ps) (count ts)) (guard_parts k 1 ps rs) (match_parts 1 ps ts) (guard_parts-match ps 1 rs ts a)))
       where
         like-cond : (b : Bool) (m : Matched Ref Ref) (m' : Matched (Tree Ref) Ref) → Like m m' → Like (cond b m (Differs [])) (cond b m' (Differs []))

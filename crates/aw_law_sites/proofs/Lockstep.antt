@@ -42,10 +42,12 @@ module _ (g : Grammar) (fit : IsGivenGrammar g) (enter : VariablesEnter g) (ok :
 
   -- the outcome over references is the one over trees
   pub answers_agree : (w : Joint) (c : Config) → Lockstep w c → (x : Choice) → OutLike w.equations (joint_outcome w g x) (outcome g c x)
-  answers_agree w c J (Start s k) = start_like w.equations (held_of (root s k) w.held) (row_of (root s k) c) (look_up (λ h q. Agree w.equations h q) (node_same w.equations) (root s k) w.held c J.pairs)
+  answers_agree w c J (Start s k) = start_like w.equations (held_of (root s k) w.held) (row_of (root s k) c)
+      (look_up (λ h q. Agree w.equations h q) (node_same w.equations) (root s k) w.held c J.pairs)
   answers_agree w c J (Develop n r args) = held_like g w.equations (held_of n w.held) (row_of n c) n r args (look_up (λ h q. Agree w.equations h q) (node_same w.equations) n w.held c J.pairs)
 
-  module _ (w : Joint) (c : Config) (J : Lockstep w c) (n : Node) (ri : ℕ) (args : List Ground) (rule : Rule) (bs : List Value) (bound : List Ref) (D : Decoded g c n ri args rule bs) (values : AllUnfold w.equations bound bs) where
+  module _ (w : Joint) (c : Config) (J : Lockstep w c) (n : Node) (ri : ℕ) (args : List Ground) (rule : Rule) (bs : List Value) (bound : List Ref)
+      (D : Decoded g c n ri args rule bs) (values : AllUnfold w.equations bound bs) where
     abbrev q : Row
     q = D.row
 
@@ -72,7 +74,8 @@ module _ (g : Grammar) (fit : IsGivenGrammar g) (enter : VariablesEnter g) (ok :
       child_free = λ x i e. no_equation x (λ p m f s. P.fresh p m i (sym f ∙ e));
       values = values;
       parts = λ b m h i. let (t, mt, it) = match_all-parts 1 rule.patterns q.inherited bs D.bound b m h i in J.good.1.whole q D.held h (inl (t, mt, it));
-      in_range = λ t o v i. let a = enter rule rule_in t o v i in let b = Pairs-length (EntersAt q ri rule) (entries rule) (env q.node ri rule bs args) (env_enters q ri rule bs args D.bound D.given) in omega (arith, a, b);
+      in_range = λ t o v i. let a = enter rule rule_in t o v i in let b = Pairs-length (EntersAt q ri rule) (entries rule)
+          (env q.node ri rule bs args) (env_enters q ri rule bs args D.bound D.given) in omega (arith, a, b);
     }
 
     abbrev m : Making
@@ -119,7 +122,8 @@ module _ (g : Grammar) (fit : IsGivenGrammar g) (enter : VariablesEnter g) (ok :
         record {
           node = mn ∙ (a.node ∙ (sym ds.0 ∙ sym (rounds_node M s (done_row q.node st p))));
           sort = ms ∙ (a.sort ∙ (sym ds.1 ∙ sym (rounds-sort M s (done_row q.node st p))));
-          state = cond_pair (λ (h : Held) (p : Row). h.state ≡ p.state) (node_eq q.node h.node) (node_eq q.node p.node) (record h { state = st }) h (record p { state = st }) p (ap (node_eq q.node) a.node) refl a.state ∙ sym (rounds-state M s (done_row q.node st p));
+          state = cond_pair (λ (h : Held) (p : Row). h.state ≡ p.state) (node_eq q.node h.node) (node_eq q.node p.node) (record h { state = st }) h
+              (record p { state = st }) p (ap (node_eq q.node) a.node) refl a.state ∙ sym (rounds-state M s (done_row q.node st p));
           inherited = subst (λ rs. AllUnfold k1 rs (FF (done_row q.node st p)).inherited) (sym mi)
               (subst (λ ts. AllUnfold k1 h.inherited ts) (sym (FF-inherited (done_row q.node st p) ∙ ap (map (λ t. G t)) (done_inherited p)))
               (map_right (λ r t. Unfolds k r t) (λ r t. Unfolds k1 r t) (λ t. G t) h.inherited p.inherited (λ r t mt u. changes r t u (λ x i. J.good.1.whole p mp x (inl (t, mt, i)))) a.inherited));
@@ -136,7 +140,8 @@ module _ (g : Grammar) (fit : IsGivenGrammar g) (enter : VariablesEnter g) (ok :
     abbrev vals : List Value
     vals = env q.node ri rule bs args
 
-    arg_pairs : (ts : List Term) (i : ℕ) → ((t : Term) → Member t ts → IsTermOf rule t) → Holds k1 (lay_list q.node refs i ts).equations → AllUnfold k1 (lay_list q.node refs i ts).roots (map (λ t. G t) (map (fill vals) ts))
+    arg_pairs : (ts : List Term) (i : ℕ) → ((t : Term) → Member t ts → IsTermOf rule t) → Holds k1 (lay_list q.node refs i ts).equations →
+        AllUnfold k1 (lay_list q.node refs i ts).roots (map (λ t. G t) (map (fill vals) ts))
     arg_pairs [] i o h = tt
     arg_pairs (t ∷ ts) i o h =
         let a = lay q.node refs i t in (
@@ -148,7 +153,9 @@ module _ (g : Grammar) (fit : IsGivenGrammar g) (enter : VariablesEnter g) (ok :
     child_result i j =
         elim (child_ref_ok (IO g) c q ri rule bs args k bound T i j) [ inl d ↦ changes _ _ d.0 d.1 | inr d ↦ d M ]
 
-    child_pairs : (cs : List Child) (i l : ℕ) → ((j : ℕ) (d : Child) → slice_get cs j ≡ Some d → (j' : ℕ) × (slice_get rule.children j' ≡ Some d)) → Holds k1 (lay_children q.node ri refs i l cs).equations → Pairs R (map called_held (lay_children q.node ri refs i l cs).roots) (child_rows q.node ri vals i cs)
+    child_pairs : (cs : List Child) (i l : ℕ) → ((j : ℕ) (d : Child) → slice_get cs j ≡ Some d → (j' : ℕ) × (slice_get rule.children j' ≡ Some d)) →
+        Holds k1 (lay_children q.node ri refs i l cs).equations → Pairs R (map called_held (lay_children q.node ri refs i l cs).roots)
+        (child_rows q.node ri vals i cs)
     child_pairs [] i l at h = tt
     child_pairs (d ∷ cs) i l at h =
         let a = lay_list q.node refs l d.args in
@@ -158,7 +165,8 @@ module _ (g : Grammar) (fit : IsGivenGrammar g) (enter : VariablesEnter g) (ok :
             node = sym (rounds_node M s (child_row q.node ri vals i d));
             sort = sym (rounds-sort M s (child_row q.node ri vals i d));
             state = sym (rounds-state M s (child_row q.node ri vals i d));
-            inherited = subst (λ ts. AllUnfold k1 a.roots ts) (sym (FF-inherited (child_row q.node ri vals i d))) (arg_pairs d.args l (λ t m. inr (j', d, f, m)) (Holds-left k1 a.equations (lay_children q.node ri refs (suc i) a.next cs).equations h));
+            inherited = subst (λ ts. AllUnfold k1 a.roots ts) (sym (FF-inherited (child_row q.node ri vals i d)))
+                (arg_pairs d.args l (λ t m. inr (j', d, f, m)) (Holds-left k1 a.equations (lay_children q.node ri refs (suc i) a.next cs).equations h));
             results = λ j t e.
                 let e' = sym (ap (λ ts. item ts j) (FF-results (child_row q.node ri vals i d))) ∙ e in
                 let (t0, f0, eq) = item-mapped (λ t. G t) (child_row q.node ri vals i d).results j t e' in
@@ -172,7 +180,8 @@ module _ (g : Grammar) (fit : IsGivenGrammar g) (enter : VariablesEnter g) (ok :
     calls_hold =
         let a = lay_list q.node (λ (x : Never). elim x [ ]) 1 args in
         let d = lay_children q.node ri refs 1 a.next rule.children in
-        Holds-left k1 d.equations (lay_results q.node refs d.next 1 rule.results) (Holds-right k1 a.equations (d.equations ++ lay_results q.node refs d.next 1 rule.results) (made_holds (IO g) c q ri rule bs args k bound T))
+        Holds-left k1 d.equations (lay_results q.node refs d.next 1 rule.results)
+        (Holds-right k1 a.equations (d.equations ++ lay_results q.node refs d.next 1 rule.results) (made_holds (IO g) c q ri rule bs args k bound T))
 
     before_rounds : Pairs R (insert_all (map called_held m.calls) (map (mark q.node st) w.held)) (insert_rows (child_rows q.node ri vals 1 rule.children) (map (done_row q.node st) c))
     before_rounds =
@@ -193,16 +202,33 @@ module _ (g : Grammar) (fit : IsGivenGrammar g) (enter : VariablesEnter g) (ok :
     new_lefts x b f =
         elim (option_cases k m.equations x b (find k x) refl f) [
           | inl a ↦
-              (let (p, mp, e, np) = J.lefts x b a in
-              (FF (done_row q.node st p), kept_row g fit (IO g) (io_closed g) ok c n ri args rule bs J.good D p mp, e ∙ (sym (done-same g fit (IO g) (io_closed g) ok c n ri args rule bs J.good D p).0 ∙ sym (rounds_node M s _)), still_closed g fit (IO g) (io_closed g) ok c n ri args rule bs J.good D p np))
+              (let (p, mp, e, np) = J.lefts x b a in (
+                FF (done_row q.node st p),
+                kept_row g fit (IO g) (io_closed g) ok c n ri args rule bs J.good D p mp,
+                e
+                    ∙ (sym (done-same g fit (IO g) (io_closed g) ok c n ri args rule bs J.good D p).0 ∙ sym (rounds_node M s _)),
+                still_closed g fit (IO g) (io_closed g) ok c n ri args rule bs J.good D p np,
+              ))
           | inr a ↦
-              (let e = left_there m.equations x (left_own (IO g) c q ri rule bs args k bound T) (find-left m.equations x b a) in
-              (FF (done_row q.node st q), kept_row g fit (IO g) (io_closed g) ok c n ri args rule bs J.good D q D.held, e ∙ (sym (done-same g fit (IO g) (io_closed g) ok c n ri args rule bs J.good D q).0 ∙ sym (rounds_node M s _)), own_closed g fit (IO g) (io_closed g) ok c n ri args rule bs J.good D q refl))
+              (let e = left_there m.equations x (left_own (IO g) c q ri rule bs args k bound T) (find-left m.equations x b a) in (
+                FF (done_row q.node st q),
+                kept_row g fit (IO g) (io_closed g) ok c n ri args rule bs J.good D q D.held,
+                e
+                    ∙ (sym (done-same g fit (IO g) (io_closed g) ok c n ri args rule bs J.good D q).0 ∙ sym (rounds_node M s _)),
+                own_closed g fit (IO g) (io_closed g) ok c n ri args rule bs J.good D q refl,
+              ))
         ]
 
     pub develop_lockstep : Lockstep (add_made w n (Done ri args) (made n ri rule args bound)) (develop n ri rule bs args c)
     develop_lockstep = subst (λ n. Lockstep (add_made w n (Done ri args) (made n ri rule args bound)) (develop n ri rule bs args c)) D.node
-        (record { pairs = after_rounds; good = subst (λ n. Good g fit (IO g) (io_closed g) ok (develop n ri rule bs args c)) (sym D.node) (developed g fit (IO g) (io_closed g) ok c n ri args rule bs J.good D); lefts = new_lefts; values = have_values (IO g) c q ri rule bs args k bound T J.values })
+        (record {
+          pairs = after_rounds;
+          good = subst (λ n. Good g fit (IO g) (io_closed g) ok (develop n ri rule bs args c)) (sym D.node)
+              (developed g fit (IO g) (io_closed g) ok c n ri args rule bs J.good D);
+          lefts = new_lefts;
+          values = have_values (IO g) c q ri rule bs
+              args k bound T J.values;
+        })
 
   start_pair : (k : Map) (s l : ℕ) → ((x : Ref) → x.node ≡ root s l → find k x ≡ None) → Agree k (root_held s l) (start_row g s l)
   start_pair k s l free = record {
@@ -234,7 +260,8 @@ module _ (g : Grammar) (fit : IsGivenGrammar g) (enter : VariablesEnter g) (ok :
   LikeStates None (Some c) = Never
   LikeStates (Some w) None = Never
 
-  pub step_lockstep : (w : Joint) (c : Config) → Lockstep w c → (x : Choice) (o : Outcome Ref Ref) (o' : Outcome Value Ref) → joint_outcome w g x ≡ o → outcome g c x ≡ o' → OutLike w.equations o o' → LikeStates (joint_taken w x o) (taken g c x o')
+  pub step_lockstep : (w : Joint) (c : Config) → Lockstep w c → (x : Choice) (o : Outcome Ref Ref) (o' : Outcome Value Ref) →
+      joint_outcome w g x ≡ o → outcome g c x ≡ o' → OutLike w.equations o o' → LikeStates (joint_taken w x o) (taken g c x o')
   step_lockstep w c J x (Refused a) (Refused b) e e' l = tt
   step_lockstep w c J (Start s k) Starts Starts e e' l = start_lockstep w c J s k (held_none g fit (IO g) (io_closed g) ok (row_of (root s k) c) e')
   step_lockstep w c J (Start s k) (Takes r xs) (Takes r' ts) e e' l = tt
@@ -249,7 +276,9 @@ module _ (g : Grammar) (fit : IsGivenGrammar g) (enter : VariablesEnter g) (ok :
   step_lockstep w c J x (Takes r xs) (Refused a) e e' l = never l
   step_lockstep w c J x (Takes r xs) Starts e e' l = never l
 
-  on_lockstep : (xs : List Choice) → ((w : Joint) (c : Config) → Lockstep w c → LikeStates (joint_run g w xs) (undivided g c xs)) → (o : Option Joint) (o' : Option Config) → LikeStates o o' → LikeStates (option_and_then (λ v. joint_run g v xs) o) (option_and_then (λ d. undivided g d xs) o')
+  on_lockstep : (xs : List Choice) → ((w : Joint) (c : Config) → Lockstep w c → LikeStates (joint_run g w xs) (undivided g c xs)) →
+      (o : Option Joint) (o' : Option Config) → LikeStates o o' → LikeStates (option_and_then (λ v. joint_run g v xs) o)
+      (option_and_then (λ d. undivided g d xs) o')
   on_lockstep xs f None None l = tt
   on_lockstep xs f (Some w) (Some c) l = f w c l
   on_lockstep xs f None (Some c) l = never l
@@ -257,7 +286,8 @@ module _ (g : Grammar) (fit : IsGivenGrammar g) (enter : VariablesEnter g) (ok :
 
   pub run_lockstep : (xs : List Choice) (w : Joint) (c : Config) → Lockstep w c → LikeStates (joint_run g w xs) (undivided g c xs)
   run_lockstep [] w c K = K
-  run_lockstep (x ∷ xs) w c K = on_lockstep xs (run_lockstep xs) (joint_taken w x (joint_outcome w g x)) (taken g c x (outcome g c x)) (step_lockstep w c K x (joint_outcome w g x) (outcome g c x) refl refl (answers_agree w c K x))
+  run_lockstep (x ∷ xs) w c K = on_lockstep xs (run_lockstep xs) (joint_taken w x (joint_outcome w g x)) (taken g c x (outcome g c x))
+      (step_lockstep w c K x (joint_outcome w g x) (outcome g c x) refl refl (answers_agree w c K x))
 
   pub weaken : (o : Option Joint) (o' : Option Config) → LikeStates o o' → AgreeWhereTaken o o'
   weaken None None l = tt

@@ -65,7 +65,8 @@ under-moves r end i (Differs p) m' f e = absurd cc
 under-moves r end i (Circle q) m' f e = absurd cc
 
 module _ (k l : Map) (extends : IsSubmap k l) (r end : Ref) (on : chase l r ≡ Missing end) where
-  end-moves : (c : Chased) (go go' : List Ref → Matched Ref Ref) (h : Head) (n : ℕ) (x : Ref) → chase k x ≡ c → ((rs : List Ref) → Moves r end (go rs) (go' rs)) → Moves r end (guard_end c go h n x) (guard_end (chase l x) go' h n x)
+  end-moves : (c : Chased) (go go' : List Ref → Matched Ref Ref) (h : Head) (n : ℕ) (x : Ref) → chase k x ≡ c →
+      ((rs : List Ref) → Moves r end (go rs) (go' rs)) → Moves r end (guard_end c go h n x) (guard_end (chase l x) go' h n x)
   end-moves (Missing s) go go' h n x c g e =
       let same : s ≡ r = cc in
       ap (λ z. guard_end z go' h n x) (missing-on k l extends x r end (c ∙ ap Missing same) on)

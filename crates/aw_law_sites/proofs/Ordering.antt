@@ -20,7 +20,8 @@ Before p q = node_lt p.node q.node ≡ true
 abbrev pub IsInOrder : Config → Type 0
 IsInOrder c = Later Before c
 
-order_cases : (b : Bool) (r q : Row) (qs zs : Config) → node_lt r.node q.node ≡ b → (r.node ≡ q.node → Never) → IsInOrder (q ∷ qs) → IsInOrder zs → Each (λ z. (z ≡ r) ⊎ Member z qs) zs → IsInOrder (cond b (r ∷ q ∷ qs) (q ∷ zs))
+order_cases : (b : Bool) (r q : Row) (qs zs : Config) → node_lt r.node q.node ≡ b → (r.node ≡ q.node → Never) → IsInOrder (q ∷ qs) → IsInOrder zs →
+    Each (λ z. (z ≡ r) ⊎ Member z qs) zs → IsInOrder (cond b (r ∷ q ∷ qs) (q ∷ zs))
 order_cases true r q qs zs e n o oz z = ((e, each_map (Before q) (Before r) qs (λ x h. node-trans r.node q.node x.node e h) o.0), o)
 order_cases false r q qs zs e n o oz z =
     let after : node_lt q.node r.node ≡ true = elim (node-tri r.node q.node) [ inl x ↦ absurd cc | inr x ↦ elim x [ inl y ↦ never (n y) | inr y ↦ y ] ] in
@@ -40,8 +41,18 @@ same_rows (p ∷ c) [] o u f g = never (f p (inl refl)).1
 same_rows (p ∷ c) (q ∷ d) o u f g =
     let e : p ≡ q = heads (f p (inl refl)) (g q (inl refl)) in
     let t = same_rows c d o.1 u.1
-    (λ x m. let (y, my, xy) = f x (inr m) in (y, tail_of x y q d my xy (λ yq. node-no p.node (subst (λ (r : Row). node_lt p.node r.node ≡ true) (xy ∙ (yq ∙ sym e)) (each_member (Before p) c x o.0 m))), xy))
-    (λ y m. let (x, mx, xy) = g y (inr m) in (x, tail_of y x p c mx (sym xy) (λ xp. node-no q.node (subst (λ (r : Row). node_lt q.node r.node ≡ true) (sym xy ∙ (xp ∙ e)) (each_member (Before q) d y u.0 m))), xy)) in
+    (λ x m. let (y, my, xy) = f x (inr m) in (
+      y,
+      tail_of x y q d my xy (λ yq. node-no p.node (subst (λ (r : Row). node_lt p.node r.node ≡ true) (xy ∙ (yq ∙ sym e))
+          (each_member (Before p) c x o.0 m))),
+      xy,
+    ))
+    (λ y m. let (x, mx, xy) = g y (inr m) in (
+      x,
+      tail_of y x p c mx (sym xy) (λ xp. node-no q.node (subst (λ (r : Row). node_lt q.node r.node ≡ true) (sym xy ∙ (xp ∙ e))
+          (each_member (Before q) d y u.0 m))),
+      xy,
+    )) in
     λ i. e i ∷ t i
   where
     tail_of : (x y q : Row) (d : Config) → Member y (q ∷ d) → x ≡ y → (y ≡ q → Never) → Member y d

@@ -51,7 +51,8 @@ state_like g k Pending n ri args h q p = rule_like k (slice_get g.rules ri) n ar
 pub node_same : (k : Map) (h : Held) (q : Row) → Agree k h q → h.node ≡ q.node
 node_same k h q a = a.node
 
-pub held_like : (g : Grammar) (k : Map) (o : Option Held) (o' : Option Row) (n : Node) (ri : ℕ) (args : List Ground) → LikeOption (λ h q. Agree k h q) (node_same k) o o' → OutLike k (by_held o g k n ri args) (at_row o' g n ri args)
+pub held_like : (g : Grammar) (k : Map) (o : Option Held) (o' : Option Row) (n : Node) (ri : ℕ) (args : List Ground) → LikeOption (λ h q. Agree k h q)
+    (node_same k) o o' → OutLike k (by_held o g k n ri args) (at_row o' g n ri args)
 held_like g k None None n ri args l = refl
 held_like g k (Some h) (Some q) n ri args l = subst (λ s. OutLike k (by_state s g k n ri args h) (at_state q.state g n ri args q)) (sym l.state) (state_like g k q.state n ri args h q l)
 held_like g k None (Some q) n ri args l = never l

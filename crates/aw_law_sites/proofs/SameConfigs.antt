@@ -57,7 +57,8 @@ rounds-in_order : (m : ℕ) (f : Row → Row) → ((r : Row) → (f r).node ≡ 
 rounds-in_order zero f e c o = o
 rounds-in_order (suc m) f e c o = rounds-in_order m f e (map f c) (map-in_order f e c o)
 
-insert_rows-in_order : (rs : List Row) (c : Config) → Later (λ (a b : Row). a.node ≡ b.node → Never) rs → ((r : Row) → Member r rs → (p : Row) → Member p c → r.node ≡ p.node → Never) → IsInOrder c → IsInOrder (insert_rows rs c)
+insert_rows-in_order : (rs : List Row) (c : Config) → Later (λ (a b : Row). a.node ≡ b.node → Never) rs →
+    ((r : Row) → Member r rs → (p : Row) → Member p c → r.node ≡ p.node → Never) → IsInOrder c → IsInOrder (insert_rows rs c)
 insert_rows-in_order [] c l f o = o
 insert_rows-in_order (r ∷ rs) c l f o =
     insert_rows-in_order rs (insert_row r c) l.1
@@ -66,7 +67,11 @@ insert_rows-in_order (r ∷ rs) c l f o =
 
 later_children : (n : Node) (ri : ℕ) (e : List Value) (k : ℕ) (cs : List Child) → Later (λ (a b : Row). a.node ≡ b.node → Never) (child_rows n ri e k cs)
 later_children n ri e k [] = tt
-later_children n ri e k (c ∷ cs) = (each_of (λ (b : Row). below n ri k ≡ b.node → Never) (child_rows n ri e (suc k) cs) (λ x m f. let (j, d, g, h) = Member-child_rows x n ri e (suc k) cs m in no_self k j (below-child n ri k (suc k + j) (f ∙ ap (λ (r : Row). r.node) h))), later_children n ri e (suc k) cs)
+later_children n ri e k (c ∷ cs) = (
+  each_of (λ (b : Row). below n ri k ≡ b.node → Never) (child_rows n ri e (suc k) cs) (λ x m f. let (j, d, g, h) =
+      Member-child_rows x n ri e (suc k) cs m in no_self k j (below-child n ri k (suc k + j) (f ∙ ap (λ (r : Row). r.node) h))),
+  later_children n ri e (suc k) cs,
+)
   where
     no_self : (k j : ℕ) → k ≡ suc k + j → Never
     no_self k j e = absurd (omega arith)
@@ -162,7 +167,8 @@ module _ (g : Grammar) (fit : IsGivenGrammar g) (enter : VariablesEnter g) (ok :
   whole_like (Some w) None c l e = absurd cc
 
   -- a row of the one is a row of the other
-  row_in : (w v : Joint) (c d : Config) → Lockstep g fit enter ok w c → Lockstep g fit enter ok v d → IsInOrder c → IsInOrder d → IsPartOf w v → IsPartOf v w → (p : Row) → Member p c → (q : Row) × Member q d × (p ≡ q)
+  row_in : (w v : Joint) (c d : Config) → Lockstep g fit enter ok w c → Lockstep g fit enter ok v d → IsInOrder c → IsInOrder d → IsPartOf w v →
+      IsPartOf v w → (p : Row) → Member p c → (q : Row) × Member q d × (p ≡ q)
   row_in w v c d J K i j wv vw p m =
       let (h, mh, a) = held_for w.equations w.held c J.pairs p m in
       let (h1, m1, e1, s1, r1, t1) = wv.held h mh in
@@ -191,7 +197,8 @@ module _ (g : Grammar) (fit : IsGivenGrammar g) (enter : VariablesEnter g) (ok :
       go_none (Some b) r e f = let z = vw.equations r b e in absurd cc
 
   -- two lists of the same choices lead to one configuration
-  pub same_configuration : (cs ds : List Choice) → ((x : Choice) → Member x cs → Member x ds) → ((x : Choice) → Member x ds → Member x cs) → (c d : Config) → undivided g [] cs ≡ Some c → undivided g [] ds ≡ Some d → c ≡ d
+  pub same_configuration : (cs ds : List Choice) → ((x : Choice) → Member x cs → Member x ds) → ((x : Choice) → Member x ds → Member x cs) →
+      (c d : Config) → undivided g [] cs ≡ Some c → undivided g [] ds ≡ Some d → c ≡ d
   same_configuration cs ds f h c d e e' =
       let (w, ew, J) = whole_like (joint_run g empty_joint cs) (undivided g [] cs) c (run_lockstep g fit enter ok cs (empty_joint) [] (empty_lockstep g fit enter ok)) e in
       let (v, ev, K) = whole_like (joint_run g empty_joint ds) (undivided g [] ds) d (run_lockstep g fit enter ok ds (empty_joint) [] (empty_lockstep g fit enter ok)) e' in

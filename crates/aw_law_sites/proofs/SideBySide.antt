@@ -38,7 +38,8 @@ module _ (R : Held → Row → Type 0) (same : (h : Held) (q : Row) → R h q �
   insert_pairs h r (q ∷ qs) (z ∷ zs) a p =
       let s = same h r a in
       let t = same q z p.0 in
-      cond_pair (Pairs R) (node_lt h.node q.node) (node_lt r.node z.node) (h ∷ q ∷ qs) (q ∷ insert_held h qs) (r ∷ z ∷ zs) (z ∷ insert_row r zs) (λ i. node_lt (s i) (t i)) (a, (p.0, p.1)) (p.0, insert_pairs h r qs zs a p.1)
+      cond_pair (Pairs R) (node_lt h.node q.node) (node_lt r.node z.node) (h ∷ q ∷ qs) (q ∷ insert_held h qs) (r ∷ z ∷ zs) (z ∷ insert_row r zs)
+      (λ i. node_lt (s i) (t i)) (a, (p.0, p.1)) (p.0, insert_pairs h r qs zs a p.1)
 
   pub insert_all_pairs : (rs : List Held) (ss : List Row) (hs : List Held) (qs : Config) → Pairs R rs ss → Pairs R hs qs → Pairs R (insert_all rs hs) (insert_rows ss qs)
   insert_all_pairs [] [] hs qs a p = p
@@ -58,13 +59,15 @@ module _ (R : Held → Row → Type 0) (same : (h : Held) (q : Row) → R h q �
   look_up n (h ∷ hs) [] p = never p
   look_up n (h ∷ hs) (q ∷ qs) p = cond_pair LikeOption (node_eq n h.node) (node_eq n q.node) (Some h) (held_of n hs) (Some q) (row_of n qs) (ap (node_eq n) (same h q p.0)) p.0 (look_up n hs qs p.1)
 
-pub map_pairs : {A B C D : Type 0} (P : A → B → Type 0) (R : C → D → Type 0) (f : A → C) (g : B → D) (xs : List A) (ys : List B) → ((a : A) (b : B) → Member b ys → P a b → R (f a) (g b)) → Pairs P xs ys → Pairs R (map f xs) (map g ys)
+pub map_pairs : {A B C D : Type 0} (P : A → B → Type 0) (R : C → D → Type 0) (f : A → C) (g : B → D) (xs : List A) (ys : List B) →
+    ((a : A) (b : B) → Member b ys → P a b → R (f a) (g b)) → Pairs P xs ys → Pairs R (map f xs) (map g ys)
 map_pairs P R f g [] [] h p = tt
 map_pairs P R f g [] (y ∷ ys) h p = never p
 map_pairs P R f g (x ∷ xs) [] h p = never p
 map_pairs P R f g (x ∷ xs) (y ∷ ys) h p = (h x y (inl refl) p.0, map_pairs P R f g xs ys (λ a b m. h a b (inr m)) p.1)
 
-pub map_right : {A B D : Type 0} (P : A → B → Type 0) (R : A → D → Type 0) (g : B → D) (xs : List A) (ys : List B) → ((a : A) (b : B) → Member b ys → P a b → R a (g b)) → Pairs P xs ys → Pairs R xs (map g ys)
+pub map_right : {A B D : Type 0} (P : A → B → Type 0) (R : A → D → Type 0) (g : B → D) (xs : List A) (ys : List B) →
+    ((a : A) (b : B) → Member b ys → P a b → R a (g b)) → Pairs P xs ys → Pairs R xs (map g ys)
 map_right P R g [] [] h p = tt
 map_right P R g [] (y ∷ ys) h p = never p
 map_right P R g (x ∷ xs) [] h p = never p

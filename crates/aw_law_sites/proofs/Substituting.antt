@@ -25,7 +25,8 @@ module _ {L : Type 0} (k : Map) (n : Node) (f : L → Ref) (u : L → Tree Ref) 
         one (lay-unfolds t i (Holds-left k a.equations (lays n f a.next ts).equations h) (λ x y. g x (inl y)))
         (lays-unfolds ts a.next (Holds-right k a.equations (lays n f a.next ts).equations h) (λ x y. g x (inr y)))
 
-pub lay_result-unfolds : (k : Map) (n : Node) (f : ℕ → Ref) (u : ℕ → Tree Ref) (t : Term) (i j : ℕ) → Holds k (lay_result n f i j t).equations → ((x : ℕ) → In x t → Unfolds k (f x) (u x)) → Unfolds k (result n j) (bind u t)
+pub lay_result-unfolds : (k : Map) (n : Node) (f : ℕ → Ref) (u : ℕ → Tree Ref) (t : Term) (i j : ℕ) → Holds k (lay_result n f i j t).equations →
+    ((x : ℕ) → In x t → Unfolds k (f x) (u x)) → Unfolds k (result n j) (bind u t)
 lay_result-unfolds k n f u (Leaf v) i j h g = same h.0 (g v refl)
 lay_result-unfolds k n f u (Made c ts) i j h g = is h.0 (lays-unfolds k n f u ts i h.1 g)
 

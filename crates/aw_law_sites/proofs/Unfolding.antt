@@ -35,7 +35,8 @@ module _ (k k' : Map) (more_ : (r : Ref) (b : Body) → find k r ≡ Some b → 
 
 -- what is computed is the value
 module _ (k : Map) (go : Ref → Option (Tree Ref)) (sound : (r : Ref) (t : Tree Ref) → go r ≡ Some t → Unfolds k r t) where
-  more_of : (rs : List Ref) (o : Option (Tree Ref)) (r : Ref) (ts : Trees Ref) → go r ≡ o → ((us : Trees Ref) → unfold_all go rs ≡ Some us → UnfoldAll k rs us) → option_and_then (λ t. option_map (More t) (unfold_all go rs)) o ≡ Some ts → UnfoldAll k (r ∷ rs) ts
+  more_of : (rs : List Ref) (o : Option (Tree Ref)) (r : Ref) (ts : Trees Ref) → go r ≡ o → ((us : Trees Ref) → unfold_all go rs ≡ Some us →
+      UnfoldAll k rs us) → option_and_then (λ t. option_map (More t) (unfold_all go rs)) o ≡ Some ts → UnfoldAll k (r ∷ rs) ts
   more_of rs None r ts e h f = absurd cc
   more_of rs (Some t) r ts e h f = with_rest (unfold_all go rs) refl f
     where

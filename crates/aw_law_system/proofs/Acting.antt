@@ -13,7 +13,8 @@ use Rattle.aw_law_nodes.specs.Crashes.{Kept, new_kept, back_kept, kept_frame}
 use Rattle.aw_law_nodes.specs.Nodes.{Frame}
 use Rattle.aw_law_nodes.proofs.KeptNodes.{events-append, kept-frame}
 use Rattle.aw_law_nodes.proofs.OwnEvents.{IsOwn, empty-size, start-kept}
-use Rattle.aw_law_system.specs.Systems.{Extent, Unwritten, Written, Heard, System, node_at, safe_at, first_system, Act, Asks, Crashes, after_frame, safe_after, act, acts_on, IsAllowed, AreAllowed, IsWritten}
+use Rattle.aw_law_system.specs.Systems.{Extent, Unwritten, Written, Heard, System, node_at, safe_at, first_system, Act, Asks, Crashes, after_frame}
+use Rattle.aw_law_system.specs.Systems.{safe_after, act, acts_on, IsAllowed, AreAllowed, IsWritten}
 
 -- the events that no crash takes
 abbrev pub safe_events : System → ℕ → List SiteEvent
@@ -190,7 +191,8 @@ module _ (g : Grammar) (loads : Bool) where
       crashed-extends : (a : ℕ) → a < g.roles → IsPrefix (safe_events s a) (safe_events u a)
       crashed-extends a m = elim (same_or_not r a) [
         | inl e ↦ subst (λ a. IsPrefix (safe_events s a) (safe_events u a)) e
-            (subst (IsPrefix (safe_events s r)) (sym (ap (λ (v : Kept). take (safe_at s r) v.events) crashed-here ∙ take-take (safe_at s r) n (node_at s r).events low)) (prefix-self (safe_events s r)))
+            (subst (IsPrefix (safe_events s r)) (sym (ap (λ (v : Kept). take (safe_at s r) v.events) crashed-here ∙ take-take (safe_at s r) n
+            (node_at s r).events low)) (prefix-self (safe_events s r)))
         | inr d ↦ subst (IsPrefix (safe_events s a)) (ap (λ (v : Kept). take (safe_at s a) v.events) (sym (crashed-there a d))) (prefix-self (safe_events s a))
       ]
 

@@ -36,7 +36,8 @@ others-wait : (r : ℕ) (ws ms : List Message) (m n : Message) → for_role r ws
 others-wait r [] ms m n e i = never i
 others-wait r (w ∷ ws) ms m n e i = go (nat_eq w.to r) e i (others-wait r ws ms m n)
   where
-    go : (b : Bool) → cond b (w ∷ for_role r ws) (for_role r ws) ≡ m ∷ ms → Member n (w ∷ ws) → (for_role r ws ≡ m ∷ ms → Member n ws → Member n (without r ws) ⊎ (n ≡ m)) → Member n (cond b ws (w ∷ without r ws)) ⊎ (n ≡ m)
+    go : (b : Bool) → cond b (w ∷ for_role r ws) (for_role r ws) ≡ m ∷ ms → Member n (w ∷ ws) →
+        (for_role r ws ≡ m ∷ ms → Member n ws → Member n (without r ws) ⊎ (n ≡ m)) → Member n (cond b ws (w ∷ without r ws)) ⊎ (n ≡ m)
     go true e (inl p) f = inr (p ∙ (cons-inj e).0)
     go true e (inr i) f = inl i
     go false e (inl p) f = inl (inl p)
@@ -89,7 +90,8 @@ module _ (g : Grammar) (G : Given g) (law : CrashesLeaveAWorld g) (loads : Bool)
     }
 
     -- a push was answered
-    knows-push : (r : ℕ) (m : Message) (x : Heard) → IsAllowed g s (Asks r (Push m) systems.Heard) → (ms : List Message) → for_role r c.waiting ≡ m ∷ ms → Knows (act g loads s (Asks r (Push m) systems.Heard)) (note r (Push m) x c)
+    knows-push : (r : ℕ) (m : Message) (x : Heard) → IsAllowed g s (Asks r (Push m) systems.Heard) → (ms : List Message) →
+        for_role r c.waiting ≡ m ∷ ms → Knows (act g loads s (Asks r (Push m) systems.Heard)) (note r (Push m) x c)
     knows-push r m x h ms e =
         let U = knows-act (Asks r (Push m) systems.Heard) h in record {
           count = U.count;
@@ -110,7 +112,8 @@ module _ (g : Grammar) (G : Given g) (law : CrashesLeaveAWorld g) (loads : Bool)
         }
 
     -- a message was pulled
-    knows-pull : (r p : ℕ) (m : Message) → IsAllowed g s (Asks r (Pull p) systems.Heard) → p ≡ get 0 c.places r → slice_get (node_at s r).site.outbox p ≡ Some m → (m.to < g.roles) × (size (Push m) ≤ turn_room)
+    knows-pull : (r p : ℕ) (m : Message) → IsAllowed g s (Asks r (Pull p) systems.Heard) → p ≡ get 0 c.places r → slice_get (node_at s r).site.outbox
+        p ≡ Some m → (m.to < g.roles) × (size (Push m) ≤ turn_room)
         → Knows (act g loads s (Asks r (Pull p) systems.Heard)) (note r (Pull p) (Gave m) c)
     knows-pull r p m h at e fits =
         let a = Asks r (Pull p) systems.Heard in
@@ -119,7 +122,8 @@ module _ (g : Grammar) (G : Given g) (law : CrashesLeaveAWorld g) (loads : Bool)
         let n = K.count in
         let l : r < length c.places = (let z = h.0 in omega (arith, n, z)) in
         let here : slice_get (safe_site g loads t r).outbox p ≡ Some m =
-        subst (λ (u : Site). slice_get u.outbox p ≡ Some m) (sym (written-site g G law loads s H F r (Pull p) systems.Heard h.0 tt ∙ ap (λ (k : Kept). k.site) (asked-here g loads s H.sound r (Pull p) systems.Heard h.0))) e in
+        subst (λ (u : Site). slice_get u.outbox p ≡ Some m) (sym (written-site g G law loads s H F r (Pull p) systems.Heard h.0 tt
+        ∙ ap (λ (k : Kept). k.site) (asked-here g loads s H.sound r (Pull p) systems.Heard h.0))) e in
         record {
           count = length-set c.places r (suc p) ∙ U.count;
           pulled = λ b q b-in i. elim (same_or_not r b) [
@@ -139,8 +143,10 @@ module _ (g : Grammar) (G : Given g) (law : CrashesLeaveAWorld g) (loads : Bool)
           ];
         }
       where
-        later : (b q : ℕ) → ((o : Message) × (slice_get (safe_site g loads (act g loads s (Asks r (Pull p) systems.Heard)) b).outbox q ≡ Some o) × (Member o c.waiting ⊎ IsSettled g G law loads repeats (act g loads s (Asks r (Pull p) systems.Heard)) o))
-            → (o : Message) × (slice_get (safe_site g loads (act g loads s (Asks r (Pull p) systems.Heard)) b).outbox q ≡ Some o) × (Member o (c.waiting ++ m ∷ []) ⊎ IsSettled g G law loads repeats (act g loads s (Asks r (Pull p) systems.Heard)) o)
+        later : (b q : ℕ) → ((o : Message) × (slice_get (safe_site g loads (act g loads s (Asks r (Pull p) systems.Heard)) b).outbox q ≡ Some o)
+            × (Member o c.waiting ⊎ IsSettled g G law loads repeats (act g loads s (Asks r (Pull p) systems.Heard)) o))
+            → (o : Message) × (slice_get (safe_site g loads (act g loads s (Asks r (Pull p) systems.Heard)) b).outbox q ≡ Some o)
+            × (Member o (c.waiting ++ m ∷ []) ⊎ IsSettled g G law loads repeats (act g loads s (Asks r (Pull p) systems.Heard)) o)
         later b q (o, e, w) = (o, e, elim w [ inl j ↦ inl (member_left o c.waiting (m ∷ []) j) | inr j ↦ inr j ])
 
     -- an exchange of its own

@@ -28,7 +28,8 @@ use Rattle.aw_law_nodes.proofs.Mail.{Given}
 use Rattle.aw_law_nodes.proofs.OwnEvents.{start-kept}
 use Rattle.aw_law_nodes.proofs.Runs.{delivered-now}
 use Rattle.aw_law_nodes.proofs.Served as served
-use Rattle.aw_law_system.specs.Systems.{Extent, Unwritten, Written, Heard, System, node_at, safe_at, first_system, Act, Asks, Crashes, after_frame, message_in, act, acts_on, IsCarried, IsAllowed, AreAllowed, IsWritten}
+use Rattle.aw_law_system.specs.Systems.{Extent, Unwritten, Written, Heard, System, node_at, safe_at, first_system, Act, Asks, Crashes, after_frame}
+use Rattle.aw_law_system.specs.Systems.{message_in, act, acts_on, IsCarried, IsAllowed, AreAllowed, IsWritten}
 use Rattle.aw_law_system.proofs.Acting.{safe_events, safe_site, prefix-self, prefix-on, prefix-take, sound-asked, act-extends, asked-here, asked-there, written-events, crashed-here, crashed-there}
 use Rattle.aw_law_system.proofs.Framing.{Makes, nothing, choosing, getting, makes, hands-over, new-here}
 use Rattle.aw_law_system.proofs.Leaving.{IsHeld, held-act, left, took-step, got-step}
@@ -218,7 +219,8 @@ module _ (g : Grammar) (G : Given g) (law : CrashesLeaveAWorld g) (loads : Bool)
       let moved : site_at v b ≡ site_step g (site_at w b) (Chose c) =
       subst (λ b. b < g.roles → site_at v b ≡ site_step g (site_at w b) (Chose c)) at
       (λ l. ap (λ ss. get (empty_site false (home g (node_of c))) ss (home g (node_of c))) (took-sites w (home g (node_of c)) c (choose g (site_at w (home g (node_of c))) c))
-      ∙ (get-set (empty_site false (home g (node_of c))) w.sites (home g (node_of c)) _ (omega (arith, size, l)) ∙ took-step g (site_at w (home g (node_of c))) c (choose g (site_at w (home g (node_of c))) c))) l in
+      ∙ (get-set (empty_site false (home g (node_of c))) w.sites (home g (node_of c)) _ (omega (arith, size, l))
+      ∙ took-step g (site_at w (home g (node_of c))) c (choose g (site_at w (home g (node_of c))) c))) l in
       let F = step-follows g w (Chooses c) in
       let (es, may, e) = replay v (served.reached-run g G loads w R (Chooses c ∷ []) (ok, tt)) b l hs (λ h i. can-later w v F b h (f h (inr i))) in
       (Chooses c ∷ es, (ok, may), e ∙ ap (λ t. site_run g t hs) moved)
@@ -276,7 +278,8 @@ module _ (g : Grammar) (G : Given g) (law : CrashesLeaveAWorld g) (loads : Bool)
           let here : site_at (world t T E) b ≡ safe_site g loads s b = world-site t T E b ∙ ap (λ (k : Kept). k.site) (crashed-here g loads s H.sound b (safe_at s b) h.0 h.1 h.2) in
           let (k, sent) = hand-sent t T E m K.hand in
           subst (λ u. receive g (site_run g u hs) m ≡ Repeat) here
-          (world-repeat (world t T E) (world-reached t T E) k m sent K.role (subst (λ u. receive g u m ≡ Repeat) (sym here) K.known) hs (λ e i. fits-can t T E b e (fits-more s t (λ n j. j) b e (f e i))))
+          (world-repeat (world t T E) (world-reached t T E) k m sent K.role (subst (λ u. receive g u m ≡ Repeat) (sym here) K.known) hs
+          (λ e i. fits-can t T E b e (fits-more s t (λ n j. j) b e (f e i))))
 
       -- at the node
       pub settled-node : (m : Message) → IsSettled s m → receive g (node_at s m.to).site m ≡ Repeat

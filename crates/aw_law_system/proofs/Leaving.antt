@@ -173,7 +173,8 @@ module _ (g : Grammar) where
           let w = H.frail in
           let M = H.mirrors in
           let R = M.reached in
-          let (fs, read, may, e) = subst (λ u. (fs : List Move) × ReadAs g (empty_world g loads) (remaining u) fs × Each (MayCome g) fs × (world_after g loads fs ≡ world_of u)) R.is (law loads R.events R.allowed) in
+          let (fs, read, may, e) = subst (λ u. (fs : List Move) × ReadAs g (empty_world g loads) (remaining u) fs × Each (MayCome g) fs
+          × (world_after g loads fs ≡ world_of u)) R.is (law loads R.events R.allowed) in
           let own : (r : ℕ) → own_of r (remaining w) ≡ (node_at s r).events =
           λ r. own-past r w.past (λ e i. (M.tidy.homes e i).0)
           ∙ (ap (map (λ (e : Past). e.happening)) (M.tidy.parts r) ∙ (names-numbered r 0 (kept_at w r).events ∙ ap (λ (k : Kept). k.events) (same-node g loads G law w s M H.sound r))) in

@@ -18,7 +18,9 @@ use Rattle.aw_law_sites.specs.Worlds.{node_of, site_at, Chooses, Delivers}
 use Rattle.aw_law_worlds.specs.Invariant.{sender}
 use Rattle.aw_law_worlds.proofs.Lists.{Member-filter, Member-filtered}
 use Rattle.aw_law_worlds.proofs.Places.{get-set, get-set_other, same_or_not, member-get}
-use Rattle.aw_law_nodes.specs.Crashes.{Kept, Posted, Frail, new_kept, kept_at, start_at, kept_after, posting, posts_of, happen, chosen_frail, reaction_of, with_delivery, delivered_frail, frail_step, is_dropped, back_kept, back_post, go_back, MayGoBack, FrailEvent, Happens, GoesBack, frail_event, frail_run, world_of, CrashesLeaveAWorld, kept_frame}
+use Rattle.aw_law_nodes.specs.Crashes.{Kept, Posted, Frail, new_kept, kept_at, start_at, kept_after, posting, posts_of, happen, chosen_frail}
+use Rattle.aw_law_nodes.specs.Crashes.{reaction_of, with_delivery, delivered_frail, frail_step, is_dropped, back_kept, back_post, go_back, MayGoBack}
+use Rattle.aw_law_nodes.specs.Crashes.{FrailEvent, Happens, GoesBack, frail_event, frail_run, world_of, CrashesLeaveAWorld, kept_frame}
 use Rattle.aw_law_nodes.specs.Crashes as crashes
 use Rattle.aw_law_nodes.specs.Nodes.{Frame, Choose, handle}
 use Rattle.aw_law_nodes.proofs.Dropped.{drop-other, drop-early, drop-late}
@@ -26,7 +28,8 @@ use Rattle.aw_law_nodes.proofs.Following.{choose-boxes, receive-boxes}
 use Rattle.aw_law_nodes.proofs.ListParts.{map-get, set-same}
 use Rattle.aw_law_nodes.proofs.Mail.{Mail, Given}
 use Rattle.aw_law_nodes.proofs.Crashed.{set-member, set-members}
-use Rattle.aw_law_system.specs.Systems.{Extent, Unwritten, Written, Heard, System, node_at, safe_at, first_system, Act, Asks, Crashes, after_frame, hands_after, message_in, act, IsCarried, IsAllowed, IsWritten}
+use Rattle.aw_law_system.specs.Systems.{Extent, Unwritten, Written, Heard, System, node_at, safe_at, first_system, Act, Asks, Crashes, after_frame}
+use Rattle.aw_law_system.specs.Systems.{hands_after, message_in, act, IsCarried, IsAllowed, IsWritten}
 use Rattle.aw_law_system.proofs.Acting.{IsSound, asked-safe, written-all, asked-more, safe-either}
 use Rattle.aw_law_system.proofs.Framing.{Makes, nothing, choosing, getting, makes, hands-over, new-here}
 use Rattle.aw_law_system.proofs.Pasts.{IsTidy, role_of, tidy-start, tidy-happen, tidy-back}
@@ -270,7 +273,13 @@ module _ (g : Grammar) (loads : Bool) where
                   ])
                   (λ u z. elim (set-members w.posted j p (with_delivery n p) u e z) [
                     | inl d ↦ (u, d, refl, refl, refl)
-                    | inr d ↦ (with_delivery n p, set-member w.posted j p (with_delivery n p) e, ap (λ (u : Posted). u.message) (sym d), ap (λ (u : Posted). u.event) (sym d), ap (λ (u : Posted). u.from) (sym d))
+                    | inr d ↦ (
+                      with_delivery n p,
+                      set-member w.posted j p (with_delivery n p) e,
+                      ap (λ (u : Posted). u.message) (sym d),
+                      ap (λ (u : Posted). u.event) (sym d),
+                      ap (λ (u : Posted). u.from) (sym d),
+                    )
                   ]),
             )
 

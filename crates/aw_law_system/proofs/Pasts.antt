@@ -165,4 +165,5 @@ module _ (g : Grammar) where
       each : (a : ℕ) → (r ≡ a) ⊎ (r ≡ a → Never) → back_past r n (numbered a 0 (kept_at w a).events) ≡ numbered a 0 (kept_at v a).events
       each a (inl e) = subst (λ a. back_past r n (numbered a 0 (kept_at w a).events) ≡ numbered a 0 (kept_at v a).events) e
           (back-first r n n 0 (kept_at w r).events (omega arith) ∙ ap (λ (k : Kept). numbered r 0 k.events) (sym same))
-      each a (inr d) = back-other r n a 0 (kept_at w a).events (λ e. d (sym e)) ∙ ap (λ (k : Kept). numbered a 0 k.events) (sym (get-set_other (new_kept false a) w.kept r a (back_kept g loads r n (kept_at w r)) d))
+      each a (inr d) = back-other r n a 0 (kept_at w a).events (λ e. d (sym e)) ∙ ap (λ (k : Kept). numbered a 0 k.events)
+          (sym (get-set_other (new_kept false a) w.kept r a (back_kept g loads r n (kept_at w r)) d))

@@ -91,7 +91,8 @@ module _ (g : Grammar) (G : Given g) (law : CrashesLeaveAWorld g) (loads : Bool)
   Rests s rs = (a : ℕ) → a < g.roles → Member a rs ⊎ IsDone s a
 
   -- before its session too, all that a role sent by safe events was pulled
-  visited : (ds : List Deed) (s : System) → IsHeld g G law loads s → IsFed g G law loads s → AreAllowed g loads s (map act_of ds) → (a : ℕ) → a < g.roles → Member (no_more c a) (exchanged g loads s ds)
+  visited : (ds : List Deed) (s : System) → IsHeld g G law loads s → IsFed g G law loads s → AreAllowed g loads s (map act_of ds) → (a : ℕ) →
+      a < g.roles → Member (no_more c a) (exchanged g loads s ds)
       → length (safe_site g loads s a).outbox ≤ get 0 c.places a
   visited [] s H F h a l i = never i
   visited (Others x ∷ ds) s H F h a l i =
@@ -177,7 +178,8 @@ module _ (g : Grammar) (G : Given g) (law : CrashesLeaveAWorld g) (loads : Bool)
     done-act (Crashes r n) h t b l D = done-crashed r n h b l D
 
     -- a session of the last round
-    done-mine : (r : ℕ) (f : Frame) (h : IsAllowed g s (Asks r f systems.Heard)) → TakesNone g s (Asks r f systems.Heard) → length (node_at s r).site.outbox ≤ get 0 c.places r → IsDone (act g loads s (Asks r f systems.Heard)) r
+    done-mine : (r : ℕ) (f : Frame) (h : IsAllowed g s (Asks r f systems.Heard)) → TakesNone g s (Asks r f systems.Heard) →
+        length (node_at s r).site.outbox ≤ get 0 c.places r → IsDone (act g loads s (Asks r f systems.Heard)) r
     done-mine r f h t l =
         let same = node-same r f systems.Heard h t r in record {
           safe = written-all g loads s H.sound r f systems.Heard h.0 tt ∙ ap (λ (k : Kept). length k.events) (sym (asked-here g loads s H.sound r f systems.Heard h.0));
@@ -192,7 +194,8 @@ module _ (g : Grammar) (G : Given g) (law : CrashesLeaveAWorld g) (loads : Bool)
     | inr D ↦ (let z = prefix-length (safe_site g loads s a).outbox (node_at s a).site.outbox (node-box g G law loads s O.held O.fed a l) in let q = D.pulled in omega (arith, z, q))
   ]
 
-  rest-go : (ds : List Deed) (s : System) (O : GoesOn g G law loads repeats size s c) → AreAllowed g loads s (map act_of ds) → (rs : List ℕ) → exchanged g loads s ds ≡ map (no_more c) rs → NoneTaken g loads s (map act_of ds) → Rests s rs
+  rest-go : (ds : List Deed) (s : System) (O : GoesOn g G law loads repeats size s c) → AreAllowed g loads s (map act_of ds) → (rs : List ℕ) →
+      exchanged g loads s ds ≡ map (no_more c) rs → NoneTaken g loads s (map act_of ds) → Rests s rs
       → GoesOn g G law loads repeats size (acts_on g loads s (map act_of ds)) c × ((a : ℕ) → a < g.roles → IsDone (acts_on g loads s (map act_of ds)) a)
   rest-go [] s O h [] e t R = (O, λ a l. elim (R a l) [ inl i ↦ never i | inr D ↦ D ])
   rest-go [] s O h (r ∷ rs) e t R = absurd cc
@@ -236,7 +239,8 @@ module _ (g : Grammar) (G : Given g) (law : CrashesLeaveAWorld g) (loads : Bool)
             let out : Member m (safe_site g loads s a).outbox = subst (λ (u : Site). Member m u.outbox) (world-site g G law loads s O.held O.fed a ∙ sym (all-safe a l)) i in
             subst (λ u. receive g u m ≡ Repeat) (sym (world-site g G law loads s O.held O.fed m.to)) (settled-node g G law loads repeats s O.held O.fed m (all-settled s O bound a m l out)))
         | inr l ↦ (let n = O.held.sound.nodes in
-            never (subst (λ (k : Kept). Member m k.site.outbox) (get-short (new_kept false a) s.kept a (omega (arith, l, n))) (subst (λ (u : Site). Member m u.outbox) (world-site g G law loads s O.held O.fed a) i)))
+            never (subst (λ (k : Kept). Member m k.site.outbox) (get-short (new_kept false a) s.kept a (omega (arith, l, n)))
+            (subst (λ (u : Site). Member m u.outbox) (world-site g G law loads s O.held O.fed a) i)))
       ]
 
 -- the law as it is stated
@@ -256,7 +260,8 @@ module _ (g : Grammar) (G : Given g) (law : CrashesLeaveAWorld g) (repeats : Rep
       let O0 : GoesOn g G law loads repeats size s0 (new_courier g) = record { held = H0; fed = F0; knows = K0 } in
       let c = after_all (new_courier g) (flat rounds) in
       let O1 : GoesOn g G law loads repeats size s1 c =
-      subst (GoesOn g G law loads repeats size s1) (noted-sessions g size (new_courier g) (flat rounds)) (deeds-known g G law loads repeats size rounds_on s0 (new_courier g) O0 z1.0 (all_exchanges (flat rounds)) e1 N1) in
+      subst (GoesOn g G law loads repeats size s1) (noted-sessions g size (new_courier g) (flat rounds))
+      (deeds-known g G law loads repeats size rounds_on s0 (new_courier g) O0 z1.0 (all_exchanges (flat rounds)) e1 N1) in
       let (waiting, all) = still-turns g size small c (λ m i. (O1.knows.waits m i).1) last t.1 C.still in
       let at1 : system_after g loads (before ++ map act_of rounds_on) ≡ s1 = acts-append g loads first before (map act_of rounds_on) in
       let at2 : system_after g loads (before ++ (map act_of rounds_on ++ map act_of last_on)) ≡ acts_on g loads s1 (map act_of last_on) =
@@ -264,7 +269,8 @@ module _ (g : Grammar) (G : Given g) (law : CrashesLeaveAWorld g) (repeats : Rep
       let heard : exchanged g loads s1 last_on ≡ map (no_more c) (upto 0 g.roles) =
       ap (λ s. exchanged g loads s last_on) (sym at1) ∙ (e2 ∙ (all ∙ (sym (map-map (no_more c) (λ (s : Session). s.role) last) ∙ ap (map (no_more c)) C.one))) in
       let empty : (m : Message) → Member m c.waiting → Never = λ m i.
-      let (s, j, q) = member_unmap (λ (s : Session). s.role) m.to last (subst (Member m.to) (sym C.one) (upto-member 0 g.roles m.to (omega arith) (let l = (O1.knows.waits m i).0 in omega (arith, l)))) in
+      let (s, j, q) = member_unmap (λ (s : Session). s.role) m.to last
+      (subst (Member m.to) (sym C.one) (upto-member 0 g.roles m.to (omega arith) (let l = (O1.knows.waits m i).0 in omega (arith, l)))) in
       none-waits s.role c.waiting m (each-at (λ (s : Session). for_role s.role c.waiting ≡ []) last s waiting j) i q in
       let (O2, D) = rest-go g G law loads repeats size c empty last_on s1 O1 z1.1 (upto 0 g.roles) heard (subst (λ s. NoneTaken g loads s (map act_of last_on)) at1 none)
       (λ a l. inl (upto-member 0 g.roles a (omega arith) (omega (arith, l)))) in

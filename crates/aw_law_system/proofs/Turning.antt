@@ -10,7 +10,9 @@ use Rattle.aw_term.specs.WellFormed.{Each}
 use Rattle.aw_apply.specs.Messages.{Message}
 use Rattle.aw_law_worlds.proofs.Lists.{Member-filtered}
 use Rattle.aw_law_worlds.proofs.Places.{get-set, length-set}
-use Rattle.aw_law_nodes.specs.Couriers.{Heard, Pushed, Gave, NoMore, Session, Courier, for_role, turn_room, turn_messages, asks, after_reply, behind, pulls, pushes, requests, note, noted, after_session, IsReplyTo, AreReplies, AreTurns, moves, round_moves, after_all}
+use Rattle.aw_law_nodes.specs.Couriers.{Heard, Pushed, Gave, NoMore, Session, Courier, for_role, turn_room, turn_messages, asks, after_reply, behind}
+use Rattle.aw_law_nodes.specs.Couriers.{pulls, pushes, requests, note, noted, after_session, IsReplyTo, AreReplies, AreTurns, moves, round_moves}
+use Rattle.aw_law_nodes.specs.Couriers.{after_all}
 use Rattle.aw_law_nodes.specs.Nodes.{Frame, Push, Choose, Pull, Listed}
 use Rattle.aw_law_nodes.proofs.Knowing.{rest-waits}
 use Rattle.aw_law_system.specs.Resting.{Exchange, exchanges, all_exchanges}
@@ -74,13 +76,15 @@ module _ (g : Grammar) (size : Frame → ℕ) where
 
   -- one push, and the rest of the turn
   push-next : (r : ℕ) (l : r < g.roles) (c : Courier) (m : Message) (ms : List Message) → for_role r c.waiting ≡ m ∷ ms → (b : Bool) (xs : List Heard) (rest : List Frame) (es : List Exchange)
-      → ((d : Courier) → for_role r d.waiting ≡ ms → d.places ≡ c.places → AreReplies size g rest (behind xs) → AllNext (noted r rest (behind xs) d) es → AllNext d (exchanges r rest (behind xs) ++ es))
+      → ((d : Courier) → for_role r d.waiting ≡ ms → d.places ≡ c.places → AreReplies size g rest (behind xs) → AllNext (noted r rest (behind xs) d)
+      es → AllNext d (exchanges r rest (behind xs) ++ es))
       → AreReplies size g (asks b (Push m) rest) xs → AllNext (noted r (asks b (Push m) rest) xs c) es → AllNext c (exchanges r (asks b (Push m) rest) xs ++ es)
   push-next r l c m ms e false xs rest es f a k = k
   push-next r l c m ms e true [] rest es f a k = never a
   push-next r l c m ms e true (x ∷ xs) rest es f a k = (l, (ms, e), a.0, f (note r (Push m) x c) (rest-waits r c.waiting ms m e) refl a.1 k)
 
-  pushes-next : (r : ℕ) (l : r < g.roles) (ms : List Message) (room p : ℕ) (xs : List Heard) (c : Courier) → for_role r c.waiting ≡ ms → p ≡ get 0 c.places r → r < length c.places → (es : List Exchange)
+  pushes-next : (r : ℕ) (l : r < g.roles) (ms : List Message) (room p : ℕ) (xs : List Heard) (c : Courier) → for_role r c.waiting ≡ ms →
+      p ≡ get 0 c.places r → r < length c.places → (es : List Exchange)
       → AreReplies size g (pushes size room ms p xs) xs → AllNext (noted r (pushes size room ms p xs) xs c) es → AllNext c (exchanges r (pushes size room ms p xs) xs ++ es)
   pushes-next r l [] room p xs c w e n es a k = pulls-next r l xs room turn_messages p c e n es a k
   pushes-next r l (m ∷ ms) room p xs c w e n es a k =
@@ -137,15 +141,20 @@ module _ (g : Grammar) (size : Frame → ℕ) where
     still-pulls : (r p : ℕ) (xs : List Heard) → AreReplies size g (pulls size turn_room turn_messages p xs) xs → moves (pulls size turn_room turn_messages p xs) xs ≡ 0
         → (pulls size turn_room turn_messages p xs ≡ Pull p ∷ []) × (xs ≡ NoMore ∷ [])
     still-pulls r p [] a m = never (no-end p (nat_lt 0 turn_messages && nat_le (size (Pull p)) turn_room) (le-leb (size (Pull p)) turn_room (small p)) a)
-    still-pulls r p (x ∷ xs) a m = still-pull r p (nat_lt 0 turn_messages && nat_le (size (Pull p)) turn_room) x xs (pulls size (turn_room - size (Pull p)) (turn_messages - 1) (suc p) xs) (le-leb (size (Pull p)) turn_room (small p)) a m
+    still-pulls r p (x ∷ xs) a m = still-pull r p (nat_lt 0 turn_messages && nat_le (size (Pull p)) turn_room) x xs
+        (pulls size (turn_room - size (Pull p)) (turn_messages - 1) (suc p) xs) (le-leb (size (Pull p)) turn_room (small p)) a m
 
-    still-pushes : (r p : ℕ) (ms : List Message) → ((m : Message) → Member m ms → size (Push m) ≤ turn_room) → (xs : List Heard) → AreReplies size g (pushes size turn_room ms p xs) xs → moves (pushes size turn_room ms p xs) xs ≡ 0
+    still-pushes : (r p : ℕ) (ms : List Message) → ((m : Message) → Member m ms → size (Push m) ≤ turn_room) → (xs : List Heard) →
+        AreReplies size g (pushes size turn_room ms p xs) xs → moves (pushes size turn_room ms p xs) xs ≡ 0
         → (ms ≡ []) × (pushes size turn_room ms p xs ≡ Pull p ∷ []) × (xs ≡ NoMore ∷ [])
     still-pushes r p [] f xs a m = let z = still-pulls r p xs a m in (refl, z.0, z.1)
-    still-pushes r p (o ∷ ms) f xs a m = never (pushes-move o (nat_le (size (Push o)) turn_room) xs (pushes size (turn_room - size (Push o)) ms p (behind xs)) (le-leb (size (Push o)) turn_room (f o (inl refl))) a m)
+    still-pushes r p (o ∷ ms) f xs a m =
+        never (pushes-move o (nat_le (size (Push o)) turn_room) xs (pushes size (turn_room - size (Push o)) ms p (behind xs))
+        (le-leb (size (Push o)) turn_room (f o (inl refl))) a m)
 
     -- a session in which nothing moves
-    still-session : (c : Courier) → ((m : Message) → Member m c.waiting → size (Push m) ≤ turn_room) → (s : Session) → s.asked ≡ requests size c s.role s.heard → AreReplies size g s.asked s.heard → moves s.asked s.heard ≡ 0
+    still-session : (c : Courier) → ((m : Message) → Member m c.waiting → size (Push m) ≤ turn_room) → (s : Session) → s.asked ≡ requests size c
+        s.role s.heard → AreReplies size g s.asked s.heard → moves s.asked s.heard ≡ 0
         → (for_role s.role c.waiting ≡ []) × (s.asked ≡ Pull (get 0 c.places s.role) ∷ []) × (s.heard ≡ NoMore ∷ [])
     still-session c f s q a m =
         let z = still-pushes s.role (get 0 c.places s.role) (for_role s.role c.waiting) (λ o i. f o (Member-filtered (λ (m : Message). nat_eq m.to s.role) o c.waiting i).0) s.heard

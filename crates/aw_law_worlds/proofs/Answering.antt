@@ -24,7 +24,9 @@ use Rattle.aw_law_worlds.proofs.Changes.{Change, NewSound}
 use Rattle.aw_law_worlds.proofs.Learning.{find-member}
 use Rattle.aw_law_worlds.proofs.Parts.{Apart, Carries, Effect, Inv, IsLight, IsTold, Kin, KindKin, Mark, Sends_own, Sound}
 
-given_cases : (g : Grammar) (s : Site) (t : Bool) (r : Ref) (o : Option Body) (rs : List Ref) (q : Option Given) (d : Given) → (t ≡ true → home g r.node ≡ s.role) → find s.equations r ≡ o → (q ≡ Some d → (find s.equations d.equation.left ≡ Some d.equation.body) × (home g d.equation.left.node ≡ s.role))
+given_cases : (g : Grammar) (s : Site) (t : Bool) (r : Ref) (o : Option Body) (rs : List Ref) (q : Option Given) (d : Given) →
+    (t ≡ true → home g r.node ≡ s.role) → find s.equations r ≡ o → (q ≡ Some d → (find s.equations d.equation.left ≡ Some d.equation.body)
+    × (home g d.equation.left.node ≡ s.role))
     → given_on t r o rs q ≡ Some d → (find s.equations d.equation.left ≡ Some d.equation.body) × (home g d.equation.left.node ≡ s.role)
 given_cases g s true r (Some b) rs q d h f i e =
     let p = ap (λ (d : Given). d.equation) (same_Some _ _ e) in
@@ -32,7 +34,8 @@ given_cases g s true r (Some b) rs q d h f i e =
 given_cases g s true r None rs q d h f i e = i e
 given_cases g s false r o rs q d h f i e = i e
 
-next-own : (g : Grammar) (s : Site) (seen rs : List Ref) (d : Given) → next_given g s seen rs ≡ Some d → (find s.equations d.equation.left ≡ Some d.equation.body) × (home g d.equation.left.node ≡ s.role)
+next-own : (g : Grammar) (s : Site) (seen rs : List Ref) (d : Given) → next_given g s seen rs ≡ Some d →
+    (find s.equations d.equation.left ≡ Some d.equation.body) × (home g d.equation.left.node ≡ s.role)
 next-own g s seen [] d e = absurd cc
 next-own g s seen (r ∷ rs) d e =
     given_cases g s (may_give g s seen r) r (find s.equations r) rs (next_given g s seen rs) d
@@ -40,7 +43,8 @@ next-own g s seen (r ∷ rs) d e =
 
 walk_cases : (n : ℕ) (g : Grammar) (s : Site) (seen rs : List Ref) (e : Equation) (o : Option Given) → next_given g s seen rs ≡ o
     → ((seen rs : List Ref) → Member e (walk n g s seen rs) → (find s.equations e.left ≡ Some e.body) × (home g e.left.node ≡ s.role))
-    → Member e (elim o [ None ↦ [] | Some d ↦ d.equation ∷ walk n g s (d.equation.left ∷ seen) (mentions d.equation.body ++ d.rest) ]) → (find s.equations e.left ≡ Some e.body) × (home g e.left.node ≡ s.role)
+    → Member e (elim o [ None ↦ [] | Some d ↦ d.equation ∷ walk n g s (d.equation.left ∷ seen) (mentions d.equation.body ++ d.rest) ]) →
+    (find s.equations e.left ≡ Some e.body) × (home g e.left.node ≡ s.role)
 walk_cases n g s seen rs e None q f i = never i
 walk_cases n g s seen rs e (Some d) q f (inl p) = subst (λ (e : Equation). (find s.equations e.left ≡ Some e.body) × (home g e.left.node ≡ s.role)) (sym p) (next-own g s seen rs d q)
 walk_cases n g s seen rs e (Some d) q f (inr i) = f (d.equation.left ∷ seen) (mentions d.equation.body ++ d.rest) i
@@ -49,7 +53,8 @@ walk-own : (n : ℕ) (g : Grammar) (s : Site) (seen rs : List Ref) (e : Equation
 walk-own zero g s seen rs e m = never m
 walk-own (suc n) g s seen rs e m = walk_cases n g s seen rs e (next_given g s seen rs) refl (λ seen rs. walk-own n g s seen rs e) m
 
-load_cases : (b : Bool) (g : Grammar) (s : Site) (seen rs : List Ref) (e : Equation) → Member e (cond b (walk 64 g s seen rs) []) → (find s.equations e.left ≡ Some e.body) × (home g e.left.node ≡ s.role)
+load_cases : (b : Bool) (g : Grammar) (s : Site) (seen rs : List Ref) (e : Equation) → Member e (cond b (walk 64 g s seen rs) []) →
+    (find s.equations e.left ≡ Some e.body) × (home g e.left.node ≡ s.role)
 load_cases true g s seen rs e m = walk-own 64 g s seen rs e m
 load_cases false g s seen rs e m = never m
 
@@ -60,12 +65,16 @@ pub load-none : (g : Grammar) (s : Site) (seen rs : List Ref) → s.loads ≡ fa
 load-none g s seen rs e = ap (λ b. cond b (walk 64 g s seen rs) []) e
 
 -- what is carried from here is known, and of another home than the one it is for
-pub carries-own : (g : Grammar) (s : Site) (x : Joint) (a to : ℕ) → s.role ≡ a → (to ≡ a → Never) → ((e : Equation) → Member e s.equations → Member e x.equations) → (es : List Equation) → ((e : Equation) → Member e es → (find s.equations e.left ≡ Some e.body) × (home g e.left.node ≡ s.role)) → Carries g x to es
+pub carries-own : (g : Grammar) (s : Site) (x : Joint) (a to : ℕ) → s.role ≡ a → (to ≡ a → Never) →
+    ((e : Equation) → Member e s.equations → Member e x.equations) → (es : List Equation) →
+    ((e : Equation) → Member e es → (find s.equations e.left ≡ Some e.body) × (home g e.left.node ≡ s.role)) → Carries g x to es
 carries-own g s x a to er n sub es f =
     each_of (λ (e : Equation). Member e x.equations × (home g e.left.node ≡ to → Never)) es
     (λ e m. let (p, q) = f e m in (sub e (find-member s.equations e.left e.body p), λ h. n (sym h ∙ (q ∙ er))))
 
-pub own-sent : (g : Grammar) (s : Site) (h : ℕ) → s.role ≡ h → (es : List Equation) → ((e : Equation) → Member e es → (find s.equations e.left ≡ Some e.body) × (home g e.left.node ≡ s.role)) → Each (λ (e : Equation). home g e.left.node ≡ h) es
+pub own-sent : (g : Grammar) (s : Site) (h : ℕ) → s.role ≡ h → (es : List Equation) →
+    ((e : Equation) → Member e es → (find s.equations e.left ≡ Some e.body) × (home g e.left.node ≡ s.role)) →
+    Each (λ (e : Equation). home g e.left.node ≡ h) es
 own-sent g s h er es f = each_of (λ (e : Equation). home g e.left.node ≡ h) es (λ e m. (f e m).1 ∙ er)
 
 -- two places of one message
@@ -82,7 +91,8 @@ back-told g s (Some c) r from b e =
     let p : c ≡ b = same_Some _ _ e in
     subst (λ b. IsTold (record { left = r; body = b }) from (tell_back g s (Some c) r from)) p (load_of g s (r ∷ []) (mentions c), inl refl)
 
-back-case : (g : Grammar) (s : Site) (o : Option Body) (r : Ref) (from : ℕ) (n : Message) → Member n (tell_back g s o r from) → (b : Body) × (o ≡ Some b) × (n ≡ tell g s (record { left = r; body = b }) from)
+back-case : (g : Grammar) (s : Site) (o : Option Body) (r : Ref) (from : ℕ) (n : Message) → Member n (tell_back g s o r from) → (b : Body)
+    × (o ≡ Some b) × (n ≡ tell g s (record { left = r; body = b }) from)
 back-case g s None r from n m = never m
 back-case g s (Some b) r from n (inl e) = (b, refl, e)
 back-case g s (Some b) r from n (inr m) = never m
@@ -110,7 +120,8 @@ module _ (g : Grammar) (loads : Bool) (S : ℕ → Site) (M : List Message) (D :
   kin_told m (Tells f l) e load to t z s = subst (λ b. ((S (home g e.left.node)).watches e.left b ≡ true)) t (subst (λ (r : Ref). ((S (home g r.node)).watches r m.to ≡ true)) z s.0)
 
   -- a Tell that was sent is for a watcher
-  pub sent_told : (m n : Message) (e : Equation) (load : List Equation) (to : ℕ) → Member m M → n ≡ record { to = to; kind = Tells e load } → Kin m n → ((S (home g e.left.node)).watches e.left to ≡ true)
+  pub sent_told : (m n : Message) (e : Equation) (load : List Equation) (to : ℕ) → Member m M → n ≡ record { to = to; kind = Tells e load } →
+      Kin m n → ((S (home g e.left.node)).watches e.left to ≡ true)
   sent_told m n e load to i p k =
       let k' = subst (λ n. Kin m n) p k in
       kin_told m m.kind e load to k'.0 k'.1 (I.sound m i)
@@ -182,7 +193,9 @@ module _ (g : Grammar) (loads : Bool) (S : ℕ → Site) (M : List Message) (D :
       watched = λ q to n. elim (watch_cases q to n) [ inl o ↦ inl o | inr p ↦ inr (ap (λ q. home g q.node) p.0 ∙ here, (λ i. (S (p.1 i)).asked (p.0 i)) ∙ about.2) ];
       tells = λ q to b n f. elim (watch_cases q to n) [
         | inl o ↦ inl (I.tells a q to b o f)
-        | inr p ↦ inr (subst (λ q. IsTold (record { left = q; body = b }) to sent) (sym p.0) (subst (λ to. IsTold (record { left = r; body = b }) to sent) (sym p.1) (back-told g (S a) (find (S a).equations r) r from b (ap (find (S a).equations) (sym p.0) ∙ f))))
+        | inr p ↦ inr (subst (λ q. IsTold (record { left = q; body = b }) to sent) (sym p.0)
+            (subst (λ to. IsTold (record { left = r; body = b }) to sent) (sym p.1) (back-told g (S a) (find (S a).equations r) r from b
+            (ap (find (S a).equations) (sym p.0) ∙ f))))
       ];
       foreign = λ r b f. inr (inl f);
       away = λ n i e. let (b, f, p) = new_case n i in elsewhere (sym (ap (λ (m : Message). m.to) p) ∙ e);
@@ -199,7 +212,8 @@ module _ (g : Grammar) (loads : Bool) (S : ℕ → Site) (M : List Message) (D :
       light = λ l n i. let (b, f, p) = new_case n i in subst (λ (n : Message). IsLight n.kind) (sym p) (load-none g (S a) (r ∷ []) (mentions b) (I.flags a l));
       outbox = refl;
       from_here = λ n i. let (b, f, p) = new_case n i in ap (λ (n : Message). sender g n.kind) p ∙ here;
-      senders = λ n i. let (b, f, p) = new_case n i in subst (λ (n : Message). Sends_own g n.kind) (sym p) (refl, own-sent g (S a) (home g r.node) (I.roles a ∙ sym here) (load_of g (S a) (r ∷ []) (mentions b)) (load-own g (S a) (r ∷ []) (mentions b)));
+      senders = λ n i. let (b, f, p) = new_case n i in subst (λ (n : Message). Sends_own g n.kind) (sym p)
+          (refl, own-sent g (S a) (home g r.node) (I.roles a ∙ sym here) (load_of g (S a) (r ∷ []) (mentions b)) (load-own g (S a) (r ∷ []) (mentions b)));
       no_mark = λ n i. let (b, f, p) = new_case n i in
           subst (λ (n : Message). Mark loads (S n.to) n.kind → Never) (sym p)
           (λ z. elim (I.foreign from r z.1.0 z.1.1) [ inl h ↦ elsewhere (sym h ∙ here) | inr q ↦ no_watch (brought_told z.0 from r z.1.0 q) ]);

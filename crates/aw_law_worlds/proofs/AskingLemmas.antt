@@ -40,7 +40,8 @@ kin_ask m r a to k = go m.kind k.1
     go (Asks s b) z = λ i. Asks (z.0 i) (z.1 i)
     go (Tells e load) z = never z
 
-module _ (g : Grammar) (loads : Bool) (S : ℕ → Site) (M : List Message) (D : ℕ → Type 0) (x : Joint) (I : Inv g loads S M D x) (a : ℕ) (s : Site) (rs : List Ref) (er : s.role ≡ a) (ea : s.asked ≡ (S a).asked) where
+module _ (g : Grammar) (loads : Bool) (S : ℕ → Site) (M : List Message) (D : ℕ → Type 0) (x : Joint) (I : Inv g loads S M D x) (a : ℕ) (s : Site)
+    (rs : List Ref) (er : s.role ≡ a) (ea : s.asked ≡ (S a).asked) where
   abbrev pub wanted : List Ref
   wanted = filter (is_wanted g s) (in_order rs)
 

@@ -81,7 +81,8 @@ each_role-length f (r ∷ rs) n =
 each_role-member : (f : Ref → ℕ → Key) (rs : List Ref) (n : ℕ) (r : Ref) (b : ℕ) → Member r rs → b < n → Member (f r b) (each_role f rs n)
 unfolding each_role
 each_role-member f [] n r b m l = never m
-each_role-member f (s ∷ rs) n r b (inl p) l = subst (λ r. Member (f r b) (map (f s) (upto 0 n) ++ each_role f rs n)) (sym p) (member_left (f s b) (map (f s) (upto 0 n)) (each_role f rs n) (member_map (f s) b (upto 0 n) (Member-upto 0 n b (omega arith) (omega (arith, l)))))
+each_role-member f (s ∷ rs) n r b (inl p) l = subst (λ r. Member (f r b) (map (f s) (upto 0 n) ++ each_role f rs n)) (sym p)
+    (member_left (f s b) (map (f s) (upto 0 n)) (each_role f rs n) (member_map (f s) b (upto 0 n) (Member-upto 0 n b (omega arith) (omega (arith, l)))))
 each_role-member f (s ∷ rs) n r b (inr m) l = member_right (f r b) (map (f s) (upto 0 n)) (each_role f rs n) (each_role-member f rs n r b m l)
 
 part-cases : (s : Slot) (q r : Ref) (rs : List Ref) → (r ≡ q) ⊎ Member r rs → (r ≡ q → IsPartSlot s) → Member r (part_on s q rs)
@@ -99,12 +100,16 @@ result-there g [] h j m s lo l = never m
 result-there g (q ∷ hs) h j (inl p) s lo l =
     subst (λ (q : Held). Member (result h.node j) (cond (has_steps q.node.steps) (map (result q.node) (upto 1 (gives g q.sort))) [] ++ child_results g hs)) p
     (member_left (result h.node j) (cond (has_steps h.node.steps) (map (result h.node) (upto 1 (gives g h.sort))) []) (child_results g hs)
-    (subst (λ b. Member (result h.node j) (cond b (map (result h.node) (upto 1 (gives g h.sort))) [])) (sym s) (member_map (result h.node) j (upto 1 (gives g h.sort)) (Member-upto 1 (gives g h.sort) j lo (omega (arith, l))))))
-result-there g (q ∷ hs) h j (inr m) s lo l = member_right (result h.node j) (cond (has_steps q.node.steps) (map (result q.node) (upto 1 (gives g q.sort))) []) (child_results g hs) (result-there g hs h j m s lo l)
+    (subst (λ b. Member (result h.node j) (cond b (map (result h.node) (upto 1 (gives g h.sort))) [])) (sym s)
+    (member_map (result h.node) j (upto 1 (gives g h.sort)) (Member-upto 1 (gives g h.sort) j lo (omega (arith, l))))))
+result-there g (q ∷ hs) h j (inr m) s lo l = member_right (result h.node j)
+    (cond (has_steps q.node.steps) (map (result q.node) (upto 1 (gives g q.sort))) []) (child_results g hs) (result-there g hs h j m s lo l)
 
 pub created-there : (g : Grammar) (x : Joint) (r : Ref) → IsCreated g x r → Member r (created g x)
-created-there g x r (inl (e, m, p, s)) = member_left r (part_lefts x.equations) (child_results g x.held) (subst (λ r. Member r (part_lefts x.equations)) p (part-there x.equations e m (subst (λ (r : Ref). IsPartSlot r.slot) (sym p) s)))
-created-there g x r (inr (h, j, m, s, lo, l, p)) = member_right r (part_lefts x.equations) (child_results g x.held) (subst (λ r. Member r (child_results g x.held)) (sym p) (result-there g x.held h j m s lo l))
+created-there g x r (inl (e, m, p, s)) = member_left r (part_lefts x.equations) (child_results g x.held)
+    (subst (λ r. Member r (part_lefts x.equations)) p (part-there x.equations e m (subst (λ (r : Ref). IsPartSlot r.slot) (sym p) s)))
+created-there g x r (inr (h, j, m, s, lo, l, p)) = member_right r (part_lefts x.equations) (child_results g x.held)
+    (subst (λ r. Member r (child_results g x.held)) (sym p) (result-there g x.held h j m s lo l))
 
 no_more : (n m : ℕ) → (m < n → Never) → n ≤ m
 no_more n m f = elim (cases_lt m n) [ inl a ↦ never (f a) | inr a ↦ a ]
@@ -114,11 +119,13 @@ module _ (words : Words) (g : Grammar) (accepted : IsAccepted words g) (loads : 
   Good w x = IsWorld words g accepted loads w x
 
   abbrev possible : Joint → List Key
-  possible x = map (λ (h : Held). CallKey (home g h.node) h.node) (filter (is_called g) x.held) ++ (each_role (λ r b. AskKey (home g r.node) r b) (created g x) g.roles ++ each_role (λ r b. TellKey b r) (created g x) g.roles)
+  possible x = map (λ (h : Held). CallKey (home g h.node) h.node) (filter (is_called g) x.held) ++ (each_role (λ r b. AskKey (home g r.node) r b)
+      (created g x) g.roles ++ each_role (λ r b. TellKey b r) (created g x) g.roles)
 
   possible-length : (x : Joint) → length (possible x) ≡ bound g x
   possible-length x =
-      let a = length-append (map (λ (h : Held). CallKey (home g h.node) h.node) (filter (is_called g) x.held)) (each_role (λ r b. AskKey (home g r.node) r b) (created g x) g.roles ++ each_role (λ r b. TellKey b r) (created g x) g.roles) in
+      let a = length-append (map (λ (h : Held). CallKey (home g h.node) h.node) (filter (is_called g) x.held))
+      (each_role (λ r b. AskKey (home g r.node) r b) (created g x) g.roles ++ each_role (λ r b. TellKey b r) (created g x) g.roles) in
       let b = length-append (each_role (λ r b. AskKey (home g r.node) r b) (created g x) g.roles) (each_role (λ r b. TellKey b r) (created g x) g.roles) in
       let c = length-mapped (λ (h : Held). CallKey (home g h.node) h.node) (filter (is_called g) x.held) in
       let d = each_role-length (λ r b. AskKey (home g r.node) r b) (created g x) g.roles in
@@ -163,7 +170,8 @@ module _ (words : Words) (g : Grammar) (accepted : IsAccepted words g) (loads : 
         let p = possible-length x in
         let z = no_more (length (map key w.messages)) (length (possible x)) (λ lt.
         (pigeon (λ a b. a ≡ b → Never) (possible x) (map key w.messages)
-        (each_of (λ k. Member k (possible x)) (map key w.messages) (λ k i. let (m, j, e) = member_unmap key k w.messages i in subst (λ k. Member k (possible x)) (sym e) (key-possible m.to m.kind (W.inv.sound m j))))
+        (each_of (λ k. Member k (possible x)) (map key w.messages) (λ k i. let (m, j, e) = member_unmap key k w.messages i in
+        subst (λ k. Member k (possible x)) (sym e) (key-possible m.to m.kind (W.inv.sound m j))))
         (Later-mapped Apart (λ a b. a ≡ b → Never) key (λ m n f e. f (key-kin m.to n.to m.kind n.kind e)) w.messages W.inv.apart) lt).1 refl) in
         omega (arith, l, p, z)
 

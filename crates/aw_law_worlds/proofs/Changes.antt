@@ -127,7 +127,8 @@ module _ (g : Grammar) (loads : Bool) where
     mention_on r (inr (h, m, n)) = let (h', m', i) = C.inherited_kept h m in inr (h', m', subst (Member r) (sym i) n)
 
     carries_on : (to : ℕ) (es : List Equation) → Carries g x to es → Carries g y to es
-    carries_on to es c = each_by (λ (e : Equation). Member e x.equations × (home g e.left.node ≡ to → Never)) (λ (e : Equation). Member e y.equations × (home g e.left.node ≡ to → Never)) (λ e p. (C.whole_kept e p.0, p.1)) es c
+    carries_on to es c = each_by (λ (e : Equation). Member e x.equations × (home g e.left.node ≡ to → Never)) (λ (e : Equation). Member e y.equations
+        × (home g e.left.node ≡ to → Never)) (λ e p. (C.whole_kept e p.0, p.1)) es c
 
     sound_on : (to : ℕ) (k : Kind) → Sound g S x to k → Sound g S' y to k
     sound_on to (Calls c load) (e, p, inl m, cs) =

@@ -42,7 +42,13 @@ formed = record {
   names = (refl, (refl, (refl, (refl, (refl, (refl, (refl, (refl, (refl, (refl, (refl, tt)))))))))));
   roles_differ = (((λ e. differ 99 108 (ap (λ xs. get 0 xs 0) e) (λ z. absurd (omega (arith, z)))), tt), (tt, tt));
   cons_differ = (
-    ((λ e. differ 98 114 (ap (λ xs. get 0 xs 0) e) (λ z. absurd (omega (arith, z)))), ((λ e. differ 98 102 (ap (λ xs. get 0 xs 0) e) (λ z. absurd (omega (arith, z)))), ((λ e. differ 98 110 (ap (λ xs. get 0 xs 0) e) (λ z. absurd (omega (arith, z)))), tt))),
+    (
+      (λ e. differ 98 114 (ap (λ xs. get 0 xs 0) e) (λ z. absurd (omega (arith, z)))),
+      (
+        (λ e. differ 98 102 (ap (λ xs. get 0 xs 0) e) (λ z. absurd (omega (arith, z)))),
+        ((λ e. differ 98 110 (ap (λ xs. get 0 xs 0) e) (λ z. absurd (omega (arith, z)))), tt),
+      ),
+    ),
     (
       ((λ e. differ 114 102 (ap (λ xs. get 0 xs 0) e) (λ z. absurd (omega (arith, z)))), ((λ e. differ 114 110 (ap (λ xs. get 0 xs 0) e) (λ z. absurd (omega (arith, z)))), tt)),
       (((λ e. differ 102 110 (ap (λ xs. get 0 xs 0) e) (λ z. absurd (omega (arith, z)))), tt), (tt, tt)),
@@ -54,7 +60,10 @@ formed = record {
     (((λ e. differ 97 115 (ap (λ xs. get 0 xs 0) e) (λ z. absurd (omega (arith, z)))), tt), (tt, tt)),
   );
   arities = (omega arith, (omega arith, (omega arith, (omega arith, tt))));
-  sorts = (record { declared = omega arith; few_takes = omega arith; few_gives = omega arith; start = λ e. refl }, (record { declared = omega arith; few_takes = omega arith; few_gives = omega arith; start = λ e. absurd cc }, tt));
+  sorts = (
+    record { declared = omega arith; few_takes = omega arith; few_gives = omega arith; start = λ e. refl },
+    (record { declared = omega arith; few_takes = omega arith; few_gives = omega arith; start = λ e. absurd cc }, tt),
+  );
   rules = (admit_fits, (analyse_fits, (skip_fits, tt)));
 }
   where
@@ -122,7 +131,8 @@ rank o = rank_at o.child o.result
 no_round : (E : Occ → Occ → Type 0) → ((o u : Occ) → E o u → rank o < rank u) → (o : Occ) → Plus E o o → Never
 no_round E up o w = let a = rises E rank up w in absurd (omega (arith, a))
 
-up : (r : Rule) (rel : ℕ → ℕ → ℕ → Type 0) → ((v : ℕ) (o : Occ) (k : ℕ) (b : Bool) (n : ℕ) (t : Term) → get None (entries r) v ≡ Some o → term_at r (record { child = k; result = b; number = n }) ≡ Some t → In v t → rank o < rank_at k b)
+up : (r : Rule) (rel : ℕ → ℕ → ℕ → Type 0) → ((v : ℕ) (o : Occ) (k : ℕ) (b : Bool) (n : ℕ) (t : Term) → get None (entries r) v ≡ Some o →
+    term_at r (record { child = k; result = b; number = n }) ≡ Some t → In v t → rank o < rank_at k b)
     → (o u : Occ) → Edge r rel o u → rank o < rank u
 up r rel f o u (text v t a b x) = f v o u.child u.result u.number t a b x
 up r rel f _ _ (call zero i l c a x) = absurd cc
@@ -138,12 +148,14 @@ to_result r c (suc k) false n t e = let z = subst (λ cs. option_and_then (λ (d
 from_pattern : (o : Occ) (k : ℕ) (b : Bool) → inherited 0 1 ≡ o → 0 < rank_at k b → rank o < rank_at k b
 from_pattern o k b e l = subst (λ o. rank o < rank_at k b) e l
 
-analyse_text : (v : ℕ) (o : Occ) (k : ℕ) (b : Bool) (n : ℕ) (t : Term) → get None (entries analyse) v ≡ Some o → term_at analyse (record { child = k; result = b; number = n }) ≡ Some t → In v t → rank o < rank_at k b
+analyse_text : (v : ℕ) (o : Occ) (k : ℕ) (b : Bool) (n : ℕ) (t : Term) → get None (entries analyse) v ≡ Some o →
+    term_at analyse (record { child = k; result = b; number = n }) ≡ Some t → In v t → rank o < rank_at k b
 analyse_text zero o k b n t a e i = from_pattern o k b (same_Some _ _ a) (to_result analyse refl k b n t e)
 analyse_text (suc zero) o k b n t a e i = absurd cc
 analyse_text (suc (suc v)) o k b n t a e i = absurd cc
 
-skip_text : (v : ℕ) (o : Occ) (k : ℕ) (b : Bool) (n : ℕ) (t : Term) → get None (entries skip) v ≡ Some o → term_at skip (record { child = k; result = b; number = n }) ≡ Some t → In v t → rank o < rank_at k b
+skip_text : (v : ℕ) (o : Occ) (k : ℕ) (b : Bool) (n : ℕ) (t : Term) → get None (entries skip) v ≡ Some o →
+    term_at skip (record { child = k; result = b; number = n }) ≡ Some t → In v t → rank o < rank_at k b
 skip_text zero o k b n t a e i = from_pattern o k b (same_Some _ _ a) (to_result skip refl k b n t e)
 skip_text (suc v) o k b n t a e i = absurd cc
 
@@ -161,7 +173,8 @@ to_report (suc zero) false (suc zero) t e i = never (not_in_blood (subst (In {A 
 to_report (suc zero) false (suc (suc n)) t e i = absurd cc
 to_report (suc (suc k)) false n t e i = absurd cc
 
-admit_text : (v : ℕ) (o : Occ) (k : ℕ) (b : Bool) (n : ℕ) (t : Term) → get None (entries admit) v ≡ Some o → term_at admit (record { child = k; result = b; number = n }) ≡ Some t → In v t → rank o < rank_at k b
+admit_text : (v : ℕ) (o : Occ) (k : ℕ) (b : Bool) (n : ℕ) (t : Term) → get None (entries admit) v ≡ Some o →
+    term_at admit (record { child = k; result = b; number = n }) ≡ Some t → In v t → rank o < rank_at k b
 admit_text zero o k b n t a e i = absurd cc
 admit_text (suc zero) o k b n t a e i = subst (λ o. rank o < rank_at k b) (same_Some (given 1 1) o a) (to_report k b n t e i)
 admit_text (suc (suc v)) o k b n t a e i = absurd cc

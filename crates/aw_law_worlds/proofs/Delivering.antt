@@ -181,7 +181,8 @@ module _ (g : Grammar) (loads : Bool) (S : ℕ → Site) (M : List Message) (D :
   origin (Tells e load) z = refl
 
   about-ok : (q : Kind) → Sound g S x a q → about_ok g (S a).role q ≡ true
-  about-ok (Calls c load) (t, p, z, cs) = and_from _ _ (eq-eqb (home g c.node) (S a).role (sym t ∙ sym (I.roles a))) (subst (λ b. none_mine g b load ≡ true) (sym (I.roles a)) (each-away g a load (away-at load cs)))
+  about-ok (Calls c load) (t, p, z, cs) = and_from _ _ (eq-eqb (home g c.node) (S a).role (sym t ∙ sym (I.roles a)))
+      (subst (λ b. none_mine g b load ≡ true) (sym (I.roles a)) (each-away g a load (away-at load cs)))
   about-ok (Asks r from) (t, n, i) = eq-eqb (home g r.node) (S a).role (sym t ∙ sym (I.roles a))
   about-ok (Tells e load) (w, cs) = subst (λ b. none_mine g b (e ∷ load) ≡ true) (sym (I.roles a)) (each-away g a (e ∷ load) (away-at (e ∷ load) cs))
 
@@ -267,7 +268,8 @@ module _ (g : Grammar) (loads : Bool) (S : ℕ → Site) (M : List Message) (D :
     there : Member (called_held c) x.held
     there = elim sd.2 [ inl i ↦ i | inr z ↦ never (held_of-none c.node (S a).held gone z.0 z.1 z.2) ]
 
-    call_back : (j : ℕ) (n : Message) (q : Kind) → n.kind ≡ q → slice_get M j ≡ Some n → n.to ≡ a → Mark loads (asking g (record (S a) { held = H; equations = add_all (S a).equations load }) [] rs).site q → Mark loads (S a) q ⊎ (j ≡ k)
+    call_back : (j : ℕ) (n : Message) (q : Kind) → n.kind ≡ q → slice_get M j ≡ Some n → n.to ≡ a →
+        Mark loads (asking g (record (S a) { held = H; equations = add_all (S a).equations load }) [] rs).site q → Mark loads (S a) q ⊎ (j ≡ k)
     call_back j n (Calls c' l) p f t (h, i, w) =
         elim (Member-insert_held h (called_held c) (S a).held i) [
           | inl z ↦ (let u = ap (λ (h : Held). h.node) z in inr (same-place j n f t (Calls c' l) (Calls c load) p e (sym w ∙ u) (sym u ∙ w)))
@@ -277,21 +279,28 @@ module _ (g : Grammar) (loads : Bool) (S : ℕ → Site) (M : List Message) (D :
     call_back j n (Tells q l) p f t (lf, (b, w)) =
         inl (lf, (b, subst (λ es. find (add_all (S a).equations es) q.left ≡ Some b) (load-light lf c load e) w))
 
-    new_call : Change g loads S M x a (asking g (record (S a) { held = H; equations = add_all (S a).equations load }) [] rs).site (asking g (record (S a) { held = H; equations = add_all (S a).equations load }) [] rs).sent x (λ j. j ≡ k)
+    new_call : Change g loads S M x a (asking g (record (S a) { held = H; equations = add_all (S a).equations load }) [] rs).site
+        (asking g (record (S a) { held = H; equations = add_all (S a).equations load }) [] rs).sent x (λ j. j ≡ k)
     new_call = learned g loads S M D x I keyed a k m at to within H load rs
         (insert-ordered (called_held c) (S a).held (λ p m e. held_of-none c.node (S a).held gone p m (sym e)) (I.ordered a))
         (λ h i. elim (Member-insert_held h (called_held c) (S a).held i) [ inl z ↦ subst (λ (h : Held). Member h x.held × (home g h.node ≡ a)) (sym z) (there, sym sd.0) | inr o ↦ I.held a h o ])
         (λ h i. Member-inserted_held h (called_held c) (S a).held (inr i))
-        (λ h r i n. elim (Member-insert_held h (called_held c) (S a).held i) [ inl z ↦ inr (member_left r c.inherited (all_mentions load) (subst (λ (h : Held). Member r h.inherited) z n)) | inr o ↦ inl o ])
+        (λ h r i n. elim (Member-insert_held h (called_held c) (S a).held i)
+        [ inl z ↦ inr (member_left r c.inherited (all_mentions load) (subst (λ (h : Held). Member r h.inherited) z n)) | inr o ↦ inl o ])
         sd.3
         (λ q i. subst (λ k. Member q (carried k)) (sym e) i)
         (λ q r i n. member_right r c.inherited (all_mentions load) (mentions-of r load q i n))
-        (λ r i. elim (member_split r c.inherited (all_mentions load) i) [ inl o ↦ inr (called_held c, there, o) | inr o ↦ (let (q, j, n) = of-mentions r load o in inl (q, known-at load sd.3 q j, n)) ])
+        (λ r i. elim (member_split r c.inherited (all_mentions load) i) [
+          | inl o ↦ inr (called_held c, there, o)
+          | inr o ↦ (let (q, j, n) =
+              of-mentions r load o in inl (q, known-at load sd.3 q j, n))
+        ])
         (λ j n f t i. call_back_to j n f t i)
         (subst (λ k. Effect (asking g (record (S a) { held = H; equations = add_all (S a).equations load }) [] rs).site k) (sym e)
         ((called_held c, Member-inserted_held (called_held c) (called_held c) (S a).held (inl refl), refl, refl, refl), add-holds x.equations keyed (S a).equations sub load (known load sd.3)))
       where
-        call_back_to : (j : ℕ) (n : Message) → slice_get M j ≡ Some n → n.to ≡ a → Mark loads (asking g (record (S a) { held = H; equations = add_all (S a).equations load }) [] rs).site n.kind → Mark loads (S a) n.kind ⊎ (j ≡ k)
+        call_back_to : (j : ℕ) (n : Message) → slice_get M j ≡ Some n → n.to ≡ a →
+            Mark loads (asking g (record (S a) { held = H; equations = add_all (S a).equations load }) [] rs).site n.kind → Mark loads (S a) n.kind ⊎ (j ≡ k)
         call_back_to j n f t i = call_back j n n.kind refl f t i
 
   module _ (q : Equation) (load : List Equation) (e : m.kind ≡ Tells q load) where
@@ -333,7 +342,10 @@ module _ (g : Grammar) (loads : Bool) (S : ℕ → Site) (M : List Message) (D :
   new : (q : Kind) → m.kind ≡ q → is_repeat (S a) q ≡ false → Goes q
   new (Calls c load) e f =
       let gone = new-call c load e f (held_of c.node (S a).held) refl in
-      subst (λ o. Change g loads S M x a (asking g (record (S a) { held = add_held o c (S a).held; equations = add_all (S a).equations load }) [] (c.inherited ++ all_mentions load)).site (asking g (record (S a) { held = add_held o c (S a).held; equations = add_all (S a).equations load }) [] (c.inherited ++ all_mentions load)).sent x (λ j. j ≡ k))
+      subst (λ o. Change g loads S M x a (asking g (record (S a) { held = add_held o c (S a).held; equations = add_all (S a).equations load }) []
+      (c.inherited ++ all_mentions load)).site
+      (asking g (record (S a) { held = add_held o c (S a).held; equations = add_all (S a).equations load }) []
+      (c.inherited ++ all_mentions load)).sent x (λ j. j ≡ k))
       (sym gone) (new_call c load e gone)
   new (Asks r from) e f = answering g loads S M D x I a k m at to within r from e f
   new (Tells q load) e f = new_tell q load e

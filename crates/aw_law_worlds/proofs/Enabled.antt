@@ -162,7 +162,8 @@ module _ (words : Words) (g : Grammar) (accepted : IsAccepted words g) (loads : 
       ap by_root (not-there (site_at (step g w e).world (home g (root s k))).held (root s k) (λ q m p. still q (V.inv.held (home g (root s k)) q m).0 p))
 
   -- all later events
-  pub run-both : (es : List Move) (w : World) (x : Joint) → IsWorld words g accepted loads w x → Each (MayCome g) es → (y : Joint) × IsWorld words g accepted loads (run g w es) y × Grows (site_at w) (site_at (run g w es))
+  pub run-both : (es : List Move) (w : World) (x : Joint) → IsWorld words g accepted loads w x → Each (MayCome g) es → (y : Joint)
+      × IsWorld words g accepted loads (run g w es) y × Grows (site_at w) (site_at (run g w es))
   run-both [] w x W a = (x, W, record { equations = λ a r b f. f; held = λ a h m. inl m })
   run-both (e ∷ es) w x W a =
       let (y, V, G) = step-both words g accepted loads w x W e a.0 in

@@ -25,13 +25,15 @@ set-site w r a y l true e = let p = eqb-true r a e in subst (λ r. get (empty_si
 set-site w r a y l false e = get-set_other (empty_site false a) w.sites r a y.site (λ p. let z = eq-eqb r a p in absurd cc)
 
 -- the site after one event
-chose-on : (g : Grammar) (w : World) (c : Choice) (r a : ℕ) (z : Chosen) → a < length w.sites → (b : Bool) → nat_eq r a ≡ b → (r ≡ a → z ≡ choose g (site_at w a) c) → site_at (chosen_at w r c z).world a ≡ site_run g (site_at w a) (cond b (Chose c ∷ []) [])
+chose-on : (g : Grammar) (w : World) (c : Choice) (r a : ℕ) (z : Chosen) → a < length w.sites → (b : Bool) → nat_eq r a ≡ b →
+    (r ≡ a → z ≡ choose g (site_at w a) c) → site_at (chosen_at w r c z).world a ≡ site_run g (site_at w a) (cond b (Chose c ∷ []) [])
 chose-on g w c r a (No q) l true e f = ap (after_choice (site_at w a)) (f (eqb-true r a e))
 chose-on g w c r a (No q) l false e f = refl
 chose-on g w c r a (Did y) l true e f = set-site w r a y l true e ∙ ap (after_choice (site_at w a)) (f (eqb-true r a e))
 chose-on g w c r a (Did y) l false e f = set-site w r a y l false e
 
-got-on : (g : Grammar) (w : World) (k : ℕ) (m : Message) (a : ℕ) (z : Received Reaction) → a < length w.sites → (b : Bool) → nat_eq m.to a ≡ b → (m.to ≡ a → z ≡ receive g (site_at w a) m) → site_at (received_at w k m.to z).world a ≡ site_run g (site_at w a) (cond b (Got m ∷ []) [])
+got-on : (g : Grammar) (w : World) (k : ℕ) (m : Message) (a : ℕ) (z : Received Reaction) → a < length w.sites → (b : Bool) → nat_eq m.to a ≡ b →
+    (m.to ≡ a → z ≡ receive g (site_at w a) m) → site_at (received_at w k m.to z).world a ≡ site_run g (site_at w a) (cond b (Got m ∷ []) [])
 got-on g w k m a (New y) l true e f = set-site w m.to a y l true e ∙ ap (after_message (site_at w a)) (f (eqb-true m.to a e))
 got-on g w k m a (New y) l false e f = set-site w m.to a y l false e
 got-on g w k m a BadName l true e f = ap (after_message (site_at w a)) (f (eqb-true m.to a e))

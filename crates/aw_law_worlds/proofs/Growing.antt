@@ -63,7 +63,8 @@ receive-keeps g s m y e =
 pub did-inj : {x y : Reaction} → Did x ≡ Did y → x ≡ y
 did-inj e = cc
 
-mark-on : (t : Bool) (n : Node) (ri : ℕ) (args : List Ground) (h : Held) (hs : List Held) → node_eq n h.node ≡ t → Member (mark n (Done ri args) h) hs → Member h hs ⊎ ((r : ℕ) × (xs : List Ground) × Member (record h { state = Done r xs }) hs)
+mark-on : (t : Bool) (n : Node) (ri : ℕ) (args : List Ground) (h : Held) (hs : List Held) → node_eq n h.node ≡ t → Member (mark n (Done ri args) h)
+    hs → Member h hs ⊎ ((r : ℕ) × (xs : List Ground) × Member (record h { state = Done r xs }) hs)
 mark-on true n ri args h hs e m = inr (ri, args, subst (λ (h : Held). Member h hs) (ap (λ b. cond b (record h { state = Done ri args }) h) e) m)
 mark-on false n ri args h hs e m = inl (subst (λ (h : Held). Member h hs) (ap (λ b. cond b (record h { state = Done ri args }) h) e) m)
 
@@ -75,7 +76,8 @@ choose-on-keeps g s (Start st k) (Takes rule xs) y e = absurd cc
 choose-on-keeps g s (Develop n r args) (Takes rule xs) y e =
     subst (λ (y : Reaction). Keeps s y.site × Holds_on s y.site) (did-inj e) (
       find-left_more s.equations _,
-      λ h m. mark-on (node_eq n h.node) n r args h _ refl (Member-all_held (mark n (Done r args) h) (calls_in g s.role _) (map (mark n (Done r args)) s.held) (inr (member_map (mark n (Done r args)) h s.held m))),
+      λ h m. mark-on (node_eq n h.node) n r args h _ refl (Member-all_held (mark n (Done r args) h) (calls_in g s.role _)
+          (map (mark n (Done r args)) s.held) (inr (member_map (mark n (Done r args)) h s.held m))),
     )
 
 -- any choice
@@ -83,7 +85,8 @@ pub choose-keeps : (g : Grammar) (s : Site) (c : Choice) (y : Reaction) → choo
 choose-keeps g s c y e = choose-on-keeps g s c (outcome g s c) y e
 
 -- a guard that is Yes, or Differs, stays so
-pub decided-stays : (s t : Site) → Keeps s t → (n : ℕ) (ps : List Term) (rs : List Ref) → Final t.equations (guard_all s.equations n ps rs) → guard_all t.equations n ps rs ≡ guard_all s.equations n ps rs
+pub decided-stays : (s t : Site) → Keeps s t → (n : ℕ) (ps : List Term) (rs : List Ref) → Final t.equations (guard_all s.equations n ps rs) →
+    guard_all t.equations n ps rs ≡ guard_all s.equations n ps rs
 decided-stays s t k n ps rs f = guard_all-keeps s.equations t.equations k n ps rs f
 
 -- equations that stay keep each decided guard
@@ -150,7 +153,8 @@ choice_holds g s (Start st k) Starts h i f = Member-inserted_held h _ s.held (in
 choice_holds g s (Develop n r args) Starts h i f = i
 choice_holds g s (Start st k) (Takes rule xs) h i f = i
 choice_holds g s (Develop n r args) (Takes rule xs) h i f =
-    mark-other (node_eq n h.node) n (Done r args) h _ refl f (Member-all_held (mark n (Done r args) h) (calls_in g s.role _) (map (mark n (Done r args)) s.held) (inr (member_map (mark n (Done r args)) h s.held i)))
+    mark-other (node_eq n h.node) n (Done r args) h _ refl f (Member-all_held (mark n (Done r args) h) (calls_in g s.role _)
+    (map (mark n (Done r args)) s.held) (inr (member_map (mark n (Done r args)) h s.held i)))
 
 -- over all events, honest and forged
 pub site_stays : (g : Grammar) → SiteStays g

@@ -27,7 +27,8 @@ module _ (k : Map) (Q : Ref → Type 0) (q_on : (s : Ref) (h : Head) (rs : List 
   ends_at h rs (lacks f e) u m = absurd cc
   ends_at h rs (follows f d) u m = ends_at h rs d u m
 
-  end_bound : (c : Chased) (r : Ref) (h : Head) (ps : Trees ℕ) (xs : List Ref) → chase k r ≡ c → ((rs : List Ref) → ((u : Ref) → Member u rs → Q u) → guard_parts k 1 ps rs ≡ Yes xs → (u : Ref) → Member u xs → Q u)
+  end_bound : (c : Chased) (r : Ref) (h : Head) (ps : Trees ℕ) (xs : List Ref) → chase k r ≡ c → ((rs : List Ref) → ((u : Ref) → Member u rs → Q u) →
+      guard_parts k 1 ps rs ≡ Yes xs → (u : Ref) → Member u xs → Q u)
       → guard_end c (guard_parts k 1 ps) h (count ps) r ≡ Yes xs → (u : Ref) → Member u xs → Q u
   end_bound (Missing s) r h ps xs f ih e u m = absurd cc
   end_bound Round r h ps xs f ih e u m = absurd cc
@@ -62,7 +63,8 @@ module _ (k : Map) (Q : Ref → Type 0) (q_on : (s : Ref) (h : Head) (rs : List 
 
 -- and how many
 module _ (k : Map) where
-  end_many : (c : Chased) (r : Ref) (h : Head) (ps : Trees ℕ) (xs : List Ref) (l : ℕ) → ((rs : List Ref) → guard_parts k 1 ps rs ≡ Yes xs → length xs ≡ l) → guard_end c (guard_parts k 1 ps) h (count ps) r ≡ Yes xs → length xs ≡ l
+  end_many : (c : Chased) (r : Ref) (h : Head) (ps : Trees ℕ) (xs : List Ref) (l : ℕ) → ((rs : List Ref) → guard_parts k 1 ps rs ≡ Yes xs →
+      length xs ≡ l) → guard_end c (guard_parts k 1 ps) h (count ps) r ≡ Yes xs → length xs ≡ l
   end_many (Missing s) r h ps xs l ih e = absurd cc
   end_many Round r h ps xs l ih e = absurd cc
   end_many (Found h' rs) r h ps xs l ih e = ih rs (cond-yes (head_eq h h' && nat_eq (count ps) (length rs)) (guard_parts k 1 ps rs) [] xs e)

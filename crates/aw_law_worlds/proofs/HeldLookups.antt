@@ -38,14 +38,17 @@ not-there (q ∷ hs) n f = none_step (node_eq n q.node) refl (not-there hs n (λ
     none_step true e i = never (f q (inl refl) (sym (node_is n q.node e)))
     none_step false e i = i
 
-same_rule : (k k' : Map) (o : Option Rule) (n : Node) (args : List Ground) (q : Held) (rule : Rule) → o ≡ Some rule → guard_all k 1 rule.patterns q.inherited ≡ guard_all k' 1 rule.patterns q.inherited → by_rule o k n args q ≡ by_rule o k' n args q
+same_rule : (k k' : Map) (o : Option Rule) (n : Node) (args : List Ground) (q : Held) (rule : Rule) → o ≡ Some rule → guard_all k 1 rule.patterns
+    q.inherited ≡ guard_all k' 1 rule.patterns q.inherited → by_rule o k n args q ≡ by_rule o k' n args q
 same_rule k k' None n args q rule e p = absurd cc
 same_rule k k' (Some u) n args q rule e p =
     let z : u ≡ rule = same_Some _ _ e in
     let p' = subst (λ (u : Rule). guard_all k 1 u.patterns q.inherited ≡ guard_all k' 1 u.patterns q.inherited) (sym z) p in
     λ i. cond (nat_eq u.sort q.sort) (cond (nat_eq (length args) u.params) (after_guard n u (p' i)) (Refused Arguments)) (Refused NotItsRule)
 
-pub same_state : (g : Grammar) (st : State) (k k' : Map) (n : Node) (ri : ℕ) (args : List Ground) (q : Held) (rule : Rule) → slice_get g.rules ri ≡ Some rule → guard_all k 1 rule.patterns q.inherited ≡ guard_all k' 1 rule.patterns q.inherited → by_state st g k n ri args q ≡ by_state st g k' n ri args q
+pub same_state : (g : Grammar) (st : State) (k k' : Map) (n : Node) (ri : ℕ) (args : List Ground) (q : Held) (rule : Rule) →
+    slice_get g.rules ri ≡ Some rule → guard_all k 1 rule.patterns q.inherited ≡ guard_all k' 1 rule.patterns q.inherited → by_state st g k n ri args
+    q ≡ by_state st g k' n ri args q
 same_state g (Done a b) k k' n ri args q rule e p = refl
 same_state g Pending k k' n ri args q rule e p = same_rule k k' (slice_get g.rules ri) n args q rule e p
 

@@ -32,7 +32,9 @@ Keyed k = (e : Equation) → Member e k → find k e.left ≡ Some e.body
 find_one : (e : Equation) → find (e ∷ []) e.left ≡ Some e.body
 find_one e = ap (λ b. cond b (Some e.body) None) (ref_eq-self e.left)
 
-found_cases : (b : Bool) (r : Ref) (e : Equation) (es : Map) (c : Body) → ref_eq r e.left ≡ b → (find es r ≡ Some c → Member (record { left = r; body = c }) es) → cond b (Some e.body) (find es r) ≡ Some c → Member (record { left = r; body = c }) (e ∷ es)
+found_cases : (b : Bool) (r : Ref) (e : Equation) (es : Map) (c : Body) → ref_eq r e.left ≡ b →
+    (find es r ≡ Some c → Member (record { left = r; body = c }) es) → cond b (Some e.body) (find es r) ≡ Some c →
+    Member (record { left = r; body = c }) (e ∷ es)
 found_cases true r e es c p f q = let z = ref_eq-true r e.left p in let y : e.body ≡ c = same_Some _ _ q in inl (λ i. record { left = z i; body = sym y i })
 found_cases false r e es c p f q = inr (f q)
 
@@ -134,7 +136,8 @@ module _ (g : Grammar) (loads : Bool) (S : ℕ → Site) (M : List Message) (D :
       within = within;
       ordered = in_order_;
       flag = I.flags a;
-      parts = λ e n. elim (add-member (S a).equations es e n) [ inl o ↦ I.parts a e o | inr o ↦ (each_member (λ (e : Equation). Member e x.equations × (home g e.left.node ≡ a → Never)) es e carries o).0 ];
+      parts = λ e n. elim (add-member (S a).equations es e n)
+          [ inl o ↦ I.parts a e o | inr o ↦ (each_member (λ (e : Equation). Member e x.equations × (home g e.left.node ≡ a → Never)) es e carries o).0 ];
       whole_kept = λ e n. n;
       find_kept = λ r b f. add-kept (S a).equations es r b f;
       homes = λ r b e. inr e;

@@ -31,7 +31,8 @@ Member-filter p x [] m e = never m
 Member-filter p x (y ∷ ys) (inl q) e = filter_cases (p y) p x y (filter p ys) e (inl q) refl
 Member-filter p x (y ∷ ys) (inr m) e = filter_cases (p y) p x y (filter p ys) e (inr (Member-filter p x ys m e)) refl
 
-ordered_cases : (b d : Bool) (x r s : Ref) (ss zs : List Ref) → ref_eq r s ≡ d → (x ≡ r) ⊎ Member x (s ∷ ss) → ((x ≡ r) ⊎ Member x ss → Member x zs) → Member x (cond b (r ∷ s ∷ ss) (cond d (s ∷ ss) (s ∷ zs)))
+ordered_cases : (b d : Bool) (x r s : Ref) (ss zs : List Ref) → ref_eq r s ≡ d → (x ≡ r) ⊎ Member x (s ∷ ss) → ((x ≡ r) ⊎ Member x ss → Member x zs) →
+    Member x (cond b (r ∷ s ∷ ss) (cond d (s ∷ ss) (s ∷ zs)))
 ordered_cases true d x r s ss zs e m f = m
 ordered_cases false true x r s ss zs e (inl a) f = inl (a ∙ ref_eq-true r s e)
 ordered_cases false true x r s ss zs e (inr m) f = m
@@ -56,7 +57,8 @@ pub has_ref-true : (r : Ref) (ss : List Ref) → has_ref r ss ≡ true → Membe
 has_ref-true r [] e = absurd cc
 has_ref-true r (s ∷ ss) e = has_cases (ref_eq r s) r s ss refl e (has_ref-true r ss)
 
-filtered_cases : {A : Type 0} (b : Bool) (p : A → Bool) (x y : A) (zs : List A) → p y ≡ b → (Member x zs → Member x zs × (p x ≡ true)) → Member x (cond b (y ∷ zs) zs) → ((x ≡ y) ⊎ Member x zs) × (p x ≡ true)
+filtered_cases : {A : Type 0} (b : Bool) (p : A → Bool) (x y : A) (zs : List A) → p y ≡ b → (Member x zs → Member x zs × (p x ≡ true)) →
+    Member x (cond b (y ∷ zs) zs) → ((x ≡ y) ⊎ Member x zs) × (p x ≡ true)
 filtered_cases true p x y zs e f (inl q) = (inl q, ap p q ∙ e)
 filtered_cases true p x y zs e f (inr m) = (inr m, (f m).1)
 filtered_cases false p x y zs e f m = (inr m, (f m).1)
@@ -84,7 +86,8 @@ Member-of_order x (r ∷ rs) m = elim (Member-of_insert x r (in_order rs) m) [ i
 abbrev Lower : Ref → Ref → Type 0
 Lower a b = ref_lt a b ≡ true
 
-sorted_cases : (b d : Bool) (r s : Ref) (ss zs : List Ref) → ref_lt r s ≡ b → ref_eq r s ≡ d → (r ≡ s → ref_eq r s ≡ true) → Later Lower (s ∷ ss) → Later Lower zs → ((z : Ref) → Member z zs → (z ≡ r) ⊎ Member z ss) → Later Lower (cond b (r ∷ s ∷ ss) (cond d (s ∷ ss) (s ∷ zs)))
+sorted_cases : (b d : Bool) (r s : Ref) (ss zs : List Ref) → ref_lt r s ≡ b → ref_eq r s ≡ d → (r ≡ s → ref_eq r s ≡ true) → Later Lower (s ∷ ss) →
+    Later Lower zs → ((z : Ref) → Member z zs → (z ≡ r) ⊎ Member z ss) → Later Lower (cond b (r ∷ s ∷ ss) (cond d (s ∷ ss) (s ∷ zs)))
 sorted_cases true d r s ss zs e f q o oz h = ((e, each_by (Lower s) (Lower r) (λ x y. ref-trans r s x e y) ss o.0), o)
 sorted_cases false true r s ss zs e f q o oz h = o
 sorted_cases false false r s ss zs e f q o oz h =

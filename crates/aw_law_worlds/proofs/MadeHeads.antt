@@ -52,9 +52,11 @@ module _ (g : Grammar) where
     list-heads (t ∷ ts) i h = heads-both (lay n f i t).equations (lay_list n f (lay n f i t).next ts).equations (lay-heads t i (h t (inl refl))) (list-heads ts (lay n f i t).next (λ t m. h t (inr m)))
 
   module _ (n : Node) (ri : ℕ) (f : ℕ → Ref) where
-    kids-heads : (cs : List Child) (i k : ℕ) → ((j : ℕ) (d : Child) → slice_get cs j ≡ Some d → (t : Term) → Member t d.args → heads_fit g.arities t ≡ true) → Heads (lay_children n ri f i k cs).equations
+    kids-heads : (cs : List Child) (i k : ℕ) → ((j : ℕ) (d : Child) → slice_get cs j ≡ Some d → (t : Term) → Member t d.args →
+        heads_fit g.arities t ≡ true) → Heads (lay_children n ri f i k cs).equations
     kids-heads [] i k h = λ e m. never m
-    kids-heads (d ∷ cs) i k h = heads-both (lay_list n f k d.args).equations (lay_children n ri f (suc i) (lay_list n f k d.args).next cs).equations (list-heads n f d.args k (h 0 d refl)) (kids-heads cs (suc i) (lay_list n f k d.args).next (λ j d e. h (suc j) d e))
+    kids-heads (d ∷ cs) i k h = heads-both (lay_list n f k d.args).equations (lay_children n ri f (suc i) (lay_list n f k d.args).next cs).equations
+        (list-heads n f d.args k (h 0 d refl)) (kids-heads cs (suc i) (lay_list n f k d.args).next (λ j d e. h (suc j) d e))
 
     result-heads : (t : Term) (k j : ℕ) → heads_fit g.arities t ≡ true → Heads (lay_result n f k j t).equations
     result-heads (Leaf v) k j h e m = elim m [ inl z ↦ subst (λ (e : Equation). HeadOk e.body) (sym z) tt | inr z ↦ never z ]
@@ -67,9 +69,11 @@ module _ (g : Grammar) where
 
     results-heads : (ts : List Term) (k j : ℕ) → ((t : Term) → Member t ts → heads_fit g.arities t ≡ true) → Heads (lay_results n f k j ts)
     results-heads [] k j h = λ e m. never m
-    results-heads (t ∷ ts) k j h = heads-both (lay_result n f k j t).equations (lay_results n f (lay_result n f k j t).next (suc j) ts) (result-heads t k j (h t (inl refl))) (results-heads ts (lay_result n f k j t).next (suc j) (λ t m. h t (inr m)))
+    results-heads (t ∷ ts) k j h = heads-both (lay_result n f k j t).equations (lay_results n f (lay_result n f k j t).next (suc j) ts)
+        (result-heads t k j (h t (inl refl))) (results-heads ts (lay_result n f k j t).next (suc j) (λ t m. h t (inr m)))
 
-    pub kid-many : (cs : List Child) (i k : ℕ) (c : Call) → Member c (lay_children n ri f i k cs).roots → (j : ℕ) × (d : Child) × (slice_get cs j ≡ Some d) × (c.node ≡ below n ri (i + j)) × (c.sort ≡ d.sort) × (length c.inherited ≡ length d.args)
+    pub kid-many : (cs : List Child) (i k : ℕ) (c : Call) → Member c (lay_children n ri f i k cs).roots → (j : ℕ) × (d : Child)
+        × (slice_get cs j ≡ Some d) × (c.node ≡ below n ri (i + j)) × (c.sort ≡ d.sort) × (length c.inherited ≡ length d.args)
     kid-many [] i k c m = never m
     kid-many (d ∷ cs) i k c (inl p) =
         let z : i ≡ i + 0 = omega arith in
@@ -83,13 +87,16 @@ module _ (g : Grammar) where
         let z : suc i + j ≡ i + suc j = omega arith in
         (suc j, d', e, a ∙ ap (below n ri) z, b, l)
 
-  pub made-heads : (n : Node) (ri : ℕ) (rule : Rule) (args : List Ground) (bound : List Ref) → ((t : Ground) → Member t args → heads_fit g.arities t ≡ true) → ((t : Term) → IsTermOf rule t → heads_fit g.arities t ≡ true) → Heads (made n ri rule args bound).equations
+  pub made-heads : (n : Node) (ri : ℕ) (rule : Rule) (args : List Ground) (bound : List Ref) →
+      ((t : Ground) → Member t args → heads_fit g.arities t ≡ true) → ((t : Term) → IsTermOf rule t → heads_fit g.arities t ≡ true) →
+      Heads (made n ri rule args bound).equations
   made-heads n ri rule args bound h k =
       let a = lay_list n (λ x. elim x [ ]) 1 args in
       let f = get (part n 0) (bound ++ (a.roots ++ child_refs n ri 1 rule.children)) in
       let c = lay_children n ri f 1 a.next rule.children in
       heads-both a.equations (c.equations ++ lay_results n f c.next 1 rule.results) (list-heads n (λ (x : Never). elim x [ ]) args 1 h)
-      (heads-both c.equations (lay_results n f c.next 1 rule.results) (kids-heads n ri f rule.children 1 a.next (λ j d e t m. k t (inr (j, d, e, m)))) (results-heads n ri f rule.results c.next 1 (λ t m. k t (inl m))))
+      (heads-both c.equations (lay_results n f c.next 1 rule.results) (kids-heads n ri f rule.children 1 a.next (λ j d e t m. k t (inr (j, d, e, m))))
+      (results-heads n ri f rule.results c.next 1 (λ t m. k t (inl m))))
 
   pub all-refs-ok : (rs : List Ref) → ((r : Ref) → Member r rs → ref_ok g r ≡ true) → refs_ok g rs ≡ true
   all-refs-ok [] h = refl

@@ -25,9 +25,11 @@ kids-length n r k [] = refl
 kids-length n r k (c ∷ cs) =
     let x = length-mapped (result (below n r k)) (upto 1 c.outs) ∙ sym (length-mapped (λ l. Some (given k l)) (upto 1 c.outs)) in
     let y = kids-length n r (suc k) cs in
-    length-append (map (result (below n r k)) (upto 1 c.outs)) (child_refs n r (suc k) cs) ∙ ((λ i. x i + y i) ∙ sym (length-append (map (λ l. Some (given k l)) (upto 1 c.outs)) (child_entries (suc k) cs)))
+    length-append (map (result (below n r k)) (upto 1 c.outs)) (child_refs n r (suc k) cs)
+    ∙ ((λ i. x i + y i) ∙ sym (length-append (map (λ l. Some (given k l)) (upto 1 c.outs)) (child_entries (suc k) cs)))
 
-kids-member : (n : Node) (r k : ℕ) (cs : List Child) (u : Ref) → Member u (child_refs n r k cs) → (i : ℕ) × (c : Child) × (l : ℕ) × (slice_get cs i ≡ Some c) × (0 < l) × (l ≤ c.outs) × (u ≡ result (below n r (k + i)) l)
+kids-member : (n : Node) (r k : ℕ) (cs : List Child) (u : Ref) → Member u (child_refs n r k cs) → (i : ℕ) × (c : Child) × (l : ℕ)
+    × (slice_get cs i ≡ Some c) × (0 < l) × (l ≤ c.outs) × (u ≡ result (below n r (k + i)) l)
 kids-member n r k [] u m = never m
 kids-member n r k (c ∷ cs) u m = elim (member_split u (map (result (below n r k)) (upto 1 c.outs)) (child_refs n r (suc k) cs) m) [
   | inl o ↦ (let (l, j, p) = member_unmap (result (below n r k)) u (upto 1 c.outs) o in
@@ -68,14 +70,16 @@ module _ {L : Type 0} (n : Node) (f : L → Ref) (P : Ref → Type 0) where
         let (a, b) = lays-in ts (suc i) h (λ e m. p e (inr m)) in
         (p _ (inl refl) tt, λ e m r j. elim m [ inl q ↦ a r (subst (λ (e : Equation). Member r (mentions e.body)) q j) | inr o ↦ b e o r j ])
 
-    lays-in : (ts : Trees L) (i : ℕ) → ((x : L) → Ins x ts → P (f x)) → LeftsIn P (lays n f i ts).equations → ((r : Ref) → Member r (lays n f i ts).roots → P r) × MentionsIn P (lays n f i ts).equations
+    lays-in : (ts : Trees L) (i : ℕ) → ((x : L) → Ins x ts → P (f x)) → LeftsIn P (lays n f i ts).equations →
+        ((r : Ref) → Member r (lays n f i ts).roots → P r) × MentionsIn P (lays n f i ts).equations
     lays-in Nil i h p = (λ r m. never m, λ e m. never m)
     lays-in (More t ts) i h p =
         let (a, b) = lay-in t i (λ x m. h x (inl m)) (left_in P (lay n f i t).equations (lays n f (lay n f i t).next ts).equations p) in
         let (c, d) = lays-in ts (lay n f i t).next (λ x m. h x (inr m)) (right_in P (lay n f i t).equations (lays n f (lay n f i t).next ts).equations p) in
         (λ r m. elim m [ inl q ↦ subst P (sym q) a | inr o ↦ c r o ], both_in P (lay n f i t).equations (lays n f (lay n f i t).next ts).equations b d)
 
-  pub lay_list-in : (ts : List (Tree L)) (i : ℕ) → ((t : Tree L) → Member t ts → (x : L) → In x t → P (f x)) → LeftsIn P (lay_list n f i ts).equations → ((r : Ref) → Member r (lay_list n f i ts).roots → P r) × MentionsIn P (lay_list n f i ts).equations
+  pub lay_list-in : (ts : List (Tree L)) (i : ℕ) → ((t : Tree L) → Member t ts → (x : L) → In x t → P (f x)) →
+      LeftsIn P (lay_list n f i ts).equations → ((r : Ref) → Member r (lay_list n f i ts).roots → P r) × MentionsIn P (lay_list n f i ts).equations
   lay_list-in [] i h p = (λ r m. never m, λ e m. never m)
   lay_list-in (t ∷ ts) i h p =
       let (a, b) = lay-in t i (h t (inl refl)) (left_in P (lay n f i t).equations (lay_list n f (lay n f i t).next ts).equations p) in
@@ -83,13 +87,17 @@ module _ {L : Type 0} (n : Node) (f : L → Ref) (P : Ref → Type 0) where
       (λ r m. elim m [ inl q ↦ subst P (sym q) a | inr o ↦ c r o ], both_in P (lay n f i t).equations (lay_list n f (lay n f i t).next ts).equations b d)
 
 module _ (n : Node) (ri : ℕ) (f : ℕ → Ref) (P : Ref → Type 0) where
-  lay_children-in : (cs : List Child) (i k : ℕ) → ((j : ℕ) (d : Child) → slice_get cs j ≡ Some d → (t : Term) → Member t d.args → (v : ℕ) → In v t → P (f v)) → LeftsIn P (lay_children n ri f i k cs).equations
+  lay_children-in : (cs : List Child) (i k : ℕ) → ((j : ℕ) (d : Child) → slice_get cs j ≡ Some d → (t : Term) → Member t d.args → (v : ℕ) → In v t →
+      P (f v)) → LeftsIn P (lay_children n ri f i k cs).equations
       → ((c : Call) → Member c (lay_children n ri f i k cs).roots → (r : Ref) → Member r c.inherited → P r) × MentionsIn P (lay_children n ri f i k cs).equations
   lay_children-in [] i k h p = (λ c m. never m, λ e m. never m)
   lay_children-in (d ∷ cs) i k h p =
       let (a, b) = lay_list-in n f P d.args k (h 0 d refl) (left_in P (lay_list n f k d.args).equations (lay_children n ri f (suc i) (lay_list n f k d.args).next cs).equations p) in
-      let (u, v) = lay_children-in cs (suc i) (lay_list n f k d.args).next (λ j d e. h (suc j) d e) (right_in P (lay_list n f k d.args).equations (lay_children n ri f (suc i) (lay_list n f k d.args).next cs).equations p) in
-      (λ c m r j. elim m [ inl q ↦ a r (subst (λ (c : Call). Member r c.inherited) q j) | inr o ↦ u c o r j ], both_in P (lay_list n f k d.args).equations (lay_children n ri f (suc i) (lay_list n f k d.args).next cs).equations b v)
+      let (u, v) = lay_children-in cs (suc i) (lay_list n f k d.args).next (λ j d e. h (suc j) d e) (right_in P (lay_list n f k d.args).equations
+      (lay_children n ri f (suc i) (lay_list n f k d.args).next cs).equations p) in (
+        λ c m r j. elim m [ inl q ↦ a r (subst (λ (c : Call). Member r c.inherited) q j) | inr o ↦ u c o r j ],
+        both_in P (lay_list n f k d.args).equations (lay_children n ri f (suc i) (lay_list n f k d.args).next cs).equations b v,
+      )
 
   lay_result-in : (t : Term) (k j : ℕ) → ((v : ℕ) → In v t → P (f v)) → LeftsIn P (lay_result n f k j t).equations → MentionsIn P (lay_result n f k j t).equations
   lay_result-in (Leaf v) k j h p e (inl q) r m = elim (subst (λ (e : Equation). Member r (mentions e.body)) q m) [ inl z ↦ subst P (sym z) (h v refl) | inr z ↦ never z ]
@@ -106,7 +114,8 @@ module _ (n : Node) (ri : ℕ) (f : ℕ → Ref) (P : Ref → Type 0) where
       (lay_results-in ts (lay_result n f k j t).next (suc j) (λ t m. h t (inr m)) (right_in P (lay_result n f k j t).equations (lay_results n f (lay_result n f k j t).next (suc j) ts) p))
 
 -- a property of references that a choice keeps
-module _ (g : Grammar) (enter : VariablesEnter g) (n : Node) (ri : ℕ) (rule : Rule) (rule_is : slice_get g.rules ri ≡ Some rule) (args : List Ground) (given : length args ≡ rule.params) (bound : List Ref) (many : length bound ≡ length (pattern_entries 1 rule.patterns))
+module _ (g : Grammar) (enter : VariablesEnter g) (n : Node) (ri : ℕ) (rule : Rule) (rule_is : slice_get g.rules ri ≡ Some rule) (args : List Ground)
+    (given : length args ≡ rule.params) (bound : List Ref) (many : length bound ≡ length (pattern_entries 1 rule.patterns))
     (P : Ref → Type 0) (old : (r : Ref) → Member r bound → P r) (own : LeftsIn P (made n ri rule args bound).equations)
     (kids : (i : ℕ) (c : Child) (l : ℕ) → slice_get rule.children i ≡ Some c → 0 < l → l ≤ c.outs → P (result (below n ri (1 + i)) l)) where
   abbrev a0 : Laid (List Ref)
@@ -150,7 +159,8 @@ module _ (g : Grammar) (enter : VariablesEnter g) (n : Node) (ri : ℕ) (rule : 
       get-within P (part n 0) refs0 v all_refs (omega (arith, l, refs-length))
 
   kids_in : ((c : Call) → Member c c0.roots → (r : Ref) → Member r c.inherited → P r) × MentionsIn P c0.equations
-  kids_in = lay_children-in n ri (get (part n 0) refs0) P rule.children 1 a0.next (λ j d e t m v i. var_in t (inr (j, d, e, m)) v i) (left_in P c0.equations r0 (right_in P a0.equations (c0.equations ++ r0) own))
+  kids_in = lay_children-in n ri (get (part n 0) refs0) P rule.children 1 a0.next (λ j d e t m v i. var_in t (inr (j, d, e, m)) v i)
+      (left_in P c0.equations r0 (right_in P a0.equations (c0.equations ++ r0) own))
 
   pub made-in : ((c : Call) → Member c (made n ri rule args bound).calls → (r : Ref) → Member r c.inherited → P r) × MentionsIn P (made n ri rule args bound).equations
   made-in = (

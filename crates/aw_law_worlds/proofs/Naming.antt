@@ -69,7 +69,8 @@ module _ (w : Words) (g : Grammar) (formed : IsWellFormed w g) where
       go (Some t) f z = (each_member (SortFits g.roles) g.sorts t formed.sorts (member_got g.sorts s t f)).start z
 
   valid_call : (c : Call) (s : ℕ) → sort_of g c.node ≡ Some s → length c.inherited ≡ takes_of (slice_get g.sorts s) → refs_ok g c.inherited ≡ true → call_ok g c ≡ true
-  valid_call c s e l r = and_from (takes_as g (sort_of g c.node) c.inherited) (refs_ok g c.inherited) (subst (λ o. takes_as g o c.inherited ≡ true) (sym e) (eq-eqb (length c.inherited) (takes_of (slice_get g.sorts s)) l)) r
+  valid_call c s e l r = and_from (takes_as g (sort_of g c.node) c.inherited) (refs_ok g c.inherited) (subst (λ o. takes_as g o c.inherited ≡ true)
+      (sym e) (eq-eqb (length c.inherited) (takes_of (slice_get g.sorts s)) l)) r
 
 module _ (w : Words) (g : Grammar) (accepted : IsAccepted w g) (x : Joint) where
   abbrev fit : IsGivenGrammar g
@@ -81,7 +82,8 @@ module _ (w : Words) (g : Grammar) (accepted : IsAccepted w g) (x : Joint) where
   abbrev ok : HasNoCircle g (IO g)
   ok = accepted.1
 
-  module _ (F : Fit g fit enter ok x) (V : IsValid g x) (n : Node) (ri : ℕ) (args : List Ground) (rule : Rule) (bound : List Ref) (e0 : joint_outcome x g (Develop n ri args) ≡ Takes rule bound) (given : choice_ok g (Develop n ri args) ≡ true) where
+  module _ (F : Fit g fit enter ok x) (V : IsValid g x) (n : Node) (ri : ℕ) (args : List Ground) (rule : Rule) (bound : List Ref)
+      (e0 : joint_outcome x g (Develop n ri args) ≡ Takes rule bound) (given : choice_ok g (Develop n ri args) ≡ true) where
     T0 : Took g x n ri args rule bound
     T0 = T g fit enter ok x F n ri args rule bound e0
 
@@ -102,7 +104,9 @@ module _ (w : Words) (g : Grammar) (accepted : IsAccepted w g) (x : Joint) where
 
     rule_sort : sort_of g n ≡ Some rule.sort
     rule_sort =
-        let p = sort_on (plain_outcome g F.config (Develop n ri args)) refl (subst (λ o. OutLike x.equations o (plain_outcome g F.config (Develop n ri args))) e0 (answers_agree g fit enter ok x F.config F.joint (Develop n ri args))) T0.held T0.is_held T0.node in
+        let p = sort_on (plain_outcome g F.config (Develop n ri args)) refl
+        (subst (λ o. OutLike x.equations o (plain_outcome g F.config (Develop n ri args))) e0 (answers_agree g fit enter ok x F.config F.joint
+        (Develop n ri args))) T0.held T0.is_held T0.node in
         ap (sort_of g) (sym T0.node) ∙ (V.sorts T0.held T0.is_held ∙ ap Some (sym p))
 
     args_fit : (symbols_of args ≤ 256) × (grounds_ok g args ≡ true)
@@ -134,7 +138,8 @@ module _ (w : Words) (g : Grammar) (accepted : IsAccepted w g) (x : Joint) where
         let (p, c) = each_member (Lies n 1 z 1 (1 + length rule.results)) mk.equations e A.lie m in
         let q = fit.results rule in_rules in
         subst (λ o. slot_ok g o e.left.slot ≡ true) (sym (ap (sort_of g) p ∙ rule_sort))
-        (slot_within g rule.sort (1 + (symbols_of args + (child_symbols rule.children + symbols_of rule.results))) 1 z (1 + length rule.results) e.left.slot few (omega (arith, q)) (made-under n ri rule args bound e m) c)
+        (slot_within g rule.sort (1 + (symbols_of args + (child_symbols rule.children + symbols_of rule.results))) 1 z (1 + length rule.results)
+        e.left.slot few (omega (arith, q)) (made-under n ri rule args bound e m) c)
 
     inner : ((c : Call) → Member c mk.calls → (r : Ref) → Member r c.inherited → ref_ok g r ≡ true) × MentionsIn (λ r. ref_ok g r ≡ true) mk.equations
     inner = made-in g enter n ri rule T0.rule_is args (is_given g fit enter ok x F n ri args rule bound e0) bound (is_many g fit enter ok x F n ri args rule bound e0) (λ r. ref_ok g r ≡ true)

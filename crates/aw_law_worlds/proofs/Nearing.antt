@@ -15,7 +15,8 @@ use Rattle.aw_law_worlds.proofs.Settling.{deliver_counts, deliver_taken, run_mor
 use Rattle.aw_law_worlds.proofs.WorldLaws.{bound_law, invariant_law}
 
 -- one event more
-pub after_more : (g : Grammar) (loads : Bool) (es : List Move) (e : Move) → Each (MayCome g) es → MayCome g e → Each (MayCome g) (es ++ e ∷ []) × (world_after g loads (es ++ e ∷ []) ≡ (step g (world_after g loads es) e).world)
+pub after_more : (g : Grammar) (loads : Bool) (es : List Move) (e : Move) → Each (MayCome g) es → MayCome g e → Each (MayCome g) (es ++ e ∷ [])
+    × (world_after g loads (es ++ e ∷ []) ≡ (step g (world_after g loads es) e).world)
 after_more g loads es e a p = (each_push (MayCome g) es e a p, run_more g (empty_world g loads) es e)
 
 module _ (words : Words) (g : Grammar) (accepted : IsAccepted words g) (loads : Bool) (es : List Move) (may : Each (MayCome g) es) where
@@ -34,7 +35,8 @@ module _ (words : Words) (g : Grammar) (accepted : IsAccepted words g) (loads : 
 
 -- delivering the first undelivered message comes nearer to the bound
 pub nearer : (words : Words) (g : Grammar) (accepted : IsAccepted words g) (loads : Bool) (es : List Move) → Each (MayCome g) es → (k : ℕ) → undelivered (world_after g loads es) ≡ Some k
-    → (count_set (deliver g (world_after g loads es) k).world.delivered ≡ suc (count_set (world_after g loads es).delivered)) × (suc (count_set (world_after g loads es).delivered) ≤ bound_of g (world_after g loads es).taken)
+    → (count_set (deliver g (world_after g loads es) k).world.delivered ≡ suc (count_set (world_after g loads es).delivered))
+    × (suc (count_set (world_after g loads es).delivered) ≤ bound_of g (world_after g loads es).taken)
 nearer words g accepted loads es may k e =
     let v = world_after g loads es in
     let c = deliver_counts g v k e (marks_all words g accepted loads es may) in
@@ -45,6 +47,7 @@ nearer words g accepted loads es may k e =
     (c, omega (arith, c, b', t))
 
 -- each message is for one of the roles
-pub addressed : (words : Words) (g : Grammar) (accepted : IsAccepted words g) (loads : Bool) (es : List Move) → Each (MayCome g) es → (k : ℕ) (m : Message) → slice_get (world_after g loads es).messages k ≡ Some m → m.to < g.roles
+pub addressed : (words : Words) (g : Grammar) (accepted : IsAccepted words g) (loads : Bool) (es : List Move) → Each (MayCome g) es →
+    (k : ℕ) (m : Message) → slice_get (world_after g loads es).messages k ≡ Some m → m.to < g.roles
 addressed words g accepted loads es may k m e =
     let (x, I) = invariant_law words g accepted loads es may in I.addressed m (member_got (world_after g loads es).messages k m e)

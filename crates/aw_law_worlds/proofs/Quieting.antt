@@ -139,9 +139,11 @@ module _ (words : Words) (g : Grammar) (accepted : IsAccepted words g) (loads : 
       node = A.node;
       sort = A.sort;
       state = A.state;
-      inherited = own_list x.equations (S (home g h.node)).equations (Known (home g h.node)) (has_it (home g h.node)) (unknown (home g h.node)) (goes_on (home g h.node)) h.inherited q.inherited A.inherited
+      inherited = own_list x.equations (S (home g h.node)).equations (Known (home g h.node)) (has_it (home g h.node)) (unknown (home g h.node))
+          (goes_on (home g h.node)) h.inherited q.inherited A.inherited
           (λ s j. inr (inr (h, at_home h i, j)));
-      results = λ j t e. own_value x.equations (S (home g h.node)).equations (Known (home g h.node)) (has_it (home g h.node)) (unknown (home g h.node)) (goes_on (home g h.node)) (A.results j t e) (inl refl);
+      results = λ j t e. own_value x.equations (S (home g h.node)).equations (Known (home g h.node)) (has_it (home g h.node))
+          (unknown (home g h.node)) (goes_on (home g h.node)) (A.results j t e) (inl refl);
     }
 
   abbrev IsUndivided : Option Config → Type 0
@@ -208,9 +210,11 @@ module _ (words : Words) (g : Grammar) (accepted : IsAccepted words g) (loads : 
       (λ i j s t e f n h k mh mk p. n (sym (held-at i s e h mh).1 ∙ (ap (home g) p ∙ (held-at j t f k mk).1)))))
       (pairs_ordered x.equations x.held W.fit_.config W.fit_.joint.pairs W.fit_.in_order)
       (λ h m. let (s, i, j) = gather-member w.sites h m in let (a, e) = member-get w.sites s i in (held-at a s e h j).0)
-      (λ h m. gather-there w.sites (S (home g h.node)) h (get-in _ w.sites (home g h.node) (let l = (homes words g accepted loads).within h.node (ap is_some (W.valid.0.sorts h m)) in omega (arith, l, W.size))) (at_home quiet h m))
+      (λ h m. gather-there w.sites (S (home g h.node)) h (get-in _ w.sites (home g h.node) (let l = (homes words g accepted loads).within h.node
+      (ap is_some (W.valid.0.sorts h m)) in omega (arith, l, W.size))) (at_home quiet h m))
 
-  pub quiet_pairs : IsQuiet w → (c : Config) → AllAgree x.equations x.held c → Pairs (λ h q. Agree (S (home g h.node)).equations h q) (gather w.sites) c × ((h : Held) → Member h (gather w.sites) → Member h (S (home g h.node)).held)
+  pub quiet_pairs : IsQuiet w → (c : Config) → AllAgree x.equations x.held c → Pairs (λ h q. Agree (S (home g h.node)).equations h q) (gather w.sites)
+      c × ((h : Held) → Member h (gather w.sites) → Member h (S (home g h.node)).held)
   quiet_pairs quiet c A = (
     subst (λ hs. Pairs (λ h q. Agree (S (home g h.node)).equations h q) hs c) (sym (gathered quiet))
         (pairs_on (λ h q. Agree x.equations h q) (λ h q. Agree (S (home g h.node)).equations h q) x.held c (λ h q m a. agrees quiet h q m a) A),
@@ -267,7 +271,8 @@ module _ (words : Words) (g : Grammar) (accepted : IsAccepted words g) (loads : 
     cond-circle true m u e = e
     cond-circle false m u e = absurd cc
 
-    end_circle : (z : End) (r : Ref) (h : Head) (ps : Trees ℕ) (u : Ref) → ((h' : Head) (rs : List Ref) → z ≡ At_body h' rs → guard_parts K 1 ps rs ≡ Circle u → Never) → guard_end (as_chased z) (guard_parts K 1 ps) h (count ps) r ≡ Circle u → Never
+    end_circle : (z : End) (r : Ref) (h : Head) (ps : Trees ℕ) (u : Ref) → ((h' : Head) (rs : List Ref) → z ≡ At_body h' rs →
+        guard_parts K 1 ps rs ≡ Circle u → Never) → guard_end (as_chased z) (guard_parts K 1 ps) h (count ps) r ≡ Circle u → Never
     end_circle (At_missing s) r h ps u f e = absurd cc
     end_circle (At_body h' rs) r h ps u f e = f h' rs refl (cond-circle (head_eq h h' && nat_eq (count ps) (length rs)) (guard_parts K 1 ps rs) u e)
 

@@ -43,7 +43,8 @@ same_rows_read P f (h ∷ hs) [] d a b = never a
 same_rows_read P f (h ∷ hs) (p ∷ c) [] a b = never b
 same_rows_read P f (h ∷ hs) (p ∷ c) (q ∷ d) a b = let e = f h p q a.0 b.0 in let t = same_rows_read P f hs c d a.1 b.1 in λ i. e i ∷ t i
 
-results_from : (k : Map) (n : Node) (i m : ℕ) (ts : List Value) → length ts ≡ m → ((j : ℕ) (t : Value) → slice_get ts j ≡ Some t → Unfolds k (result n (i + j)) t) → AllUnfold k (map (result n) (upto i m)) ts
+results_from : (k : Map) (n : Node) (i m : ℕ) (ts : List Value) → length ts ≡ m → ((j : ℕ) (t : Value) → slice_get ts j ≡ Some t →
+    Unfolds k (result n (i + j)) t) → AllUnfold k (map (result n) (upto i m)) ts
 results_from k n i zero [] e f = tt
 results_from k n i zero (t ∷ ts) e f = absurd (omega (arith, e))
 results_from k n i (suc m) [] e f = absurd (omega (arith, e))
@@ -59,7 +60,8 @@ read_one g k h q a l = record {
   sort = a.sort;
   state = a.state;
   inherited = a.inherited;
-  results = results_from k h.node 1 (gives g h.sort) q.results (l ∙ ap (gives g) (sym a.sort)) (λ j t e. let z : suc j ≡ 1 + j = omega arith in subst (λ i. Unfolds k (result h.node i) t) z (a.results (suc j) t e));
+  results = results_from k h.node 1 (gives g h.sort) q.results (l ∙ ap (gives g) (sym a.sort)) (λ j t e. let z : suc j ≡ 1 + j = omega arith in
+      subst (λ i. Unfolds k (result h.node i) t) z (a.results (suc j) t e));
 }
 
 read_all : (P Q : Held → Row → Type 0) (hs : List Held) (c : Config) → ((h : Held) (q : Row) → Member q c → P h q → Q h q) → Pairs P hs c → Pairs Q hs c
@@ -71,7 +73,8 @@ read_all P Q (h ∷ hs) (q ∷ c) f p = (f h q (inl refl) p.0, read_all P Q hs c
 -- no other text is printed
 pub read_only : (words : Words) (g : Grammar) (v : World) (c : Config) → AreRead g v c → (text : List ℕ) → IsPrinted words g v text → text ≡ artifact_text words c
 read_only words g v c read text (rows, r, e) =
-    e ∙ ap (artifact_text words) (same_rows_read (λ h q. IsRead g (site_at v (home g h.node)).equations h q) (λ h p q a b. same_row g (site_at v (home g h.node)).equations h p q a b) (gather v.sites) rows c r read)
+    e ∙ ap (artifact_text words) (same_rows_read (λ h q. IsRead g (site_at v (home g h.node)).equations h q)
+    (λ h p q a b. same_row g (site_at v (home g h.node)).equations h p q a b) (gather v.sites) rows c r read)
 
 -- where the sites hold a configuration, its artifact text is what is printed from them, and no other text is
 module _ (words : Words) (g : Grammar) (v : World) (c : Config) (tree : IsTree g c) (holds : Pairs (λ h q. Agree (site_at v (home g h.node)).equations h q) (gather v.sites) c) where

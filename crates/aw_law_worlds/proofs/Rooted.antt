@@ -28,7 +28,8 @@ use Rattle.aw_law_worlds.proofs.GuardBinds.{all_bound, all_many}
 use Rattle.aw_law_worlds.proofs.Learning.{find-member}
 use Rattle.aw_law_worlds.proofs.MadeMentions.{MentionsIn, made-in}
 
-pub call_there : (n : Node) (ri : ℕ) (f : ℕ → Ref) (cs : List Child) (i k j : ℕ) (d : Child) → slice_get cs j ≡ Some d → (c : Call) × Member c (lay_children n ri f i k cs).roots × (c.node ≡ below n ri (i + j)) × (c.sort ≡ d.sort)
+pub call_there : (n : Node) (ri : ℕ) (f : ℕ → Ref) (cs : List Child) (i k j : ℕ) (d : Child) → slice_get cs j ≡ Some d → (c : Call)
+    × Member c (lay_children n ri f i k cs).roots × (c.node ≡ below n ri (i + j)) × (c.sort ≡ d.sort)
 call_there n ri f [] i k j d e = absurd cc
 call_there n ri f (u ∷ cs) i k zero d e =
     let z : i ≡ i + 0 = omega arith in
@@ -40,7 +41,8 @@ call_there n ri f (u ∷ cs) i k (suc j) d e =
     (c, inr m, a ∙ ap (below n ri) z, b)
 
 -- what a taken rule says, in the whole
-module _ (g : Grammar) (fit : IsGivenGrammar g) (enter : VariablesEnter g) (ok : HasNoCircle g (IO g)) (x : Joint) (F : Fit g fit enter ok x) (n : Node) (ri : ℕ) (args : List Ground) (rule : Rule) (bound : List Ref) (e0 : joint_outcome x g (Develop n ri args) ≡ Takes rule bound) where
+module _ (g : Grammar) (fit : IsGivenGrammar g) (enter : VariablesEnter g) (ok : HasNoCircle g (IO g)) (x : Joint) (F : Fit g fit enter ok x)
+    (n : Node) (ri : ℕ) (args : List Ground) (rule : Rule) (bound : List Ref) (e0 : joint_outcome x g (Develop n ri args) ≡ Takes rule bound) where
   pub T : Took g x n ri args rule bound
   T = takes g x n ri args rule bound e0
 
@@ -52,7 +54,9 @@ module _ (g : Grammar) (fit : IsGivenGrammar g) (enter : VariablesEnter g) (ok :
       subst (λ (r : Rule). length args ≡ r.params) (sym l.0) D.given
 
   pub is_given : length args ≡ rule.params
-  is_given = given_on (plain_outcome g F.config (Develop n ri args)) refl (subst (λ o. OutLike x.equations o (plain_outcome g F.config (Develop n ri args))) e0 (answers_agree g fit enter ok x F.config F.joint (Develop n ri args)))
+  is_given = given_on (plain_outcome g F.config (Develop n ri args)) refl
+      (subst (λ o. OutLike x.equations o (plain_outcome g F.config (Develop n ri args))) e0
+      (answers_agree g fit enter ok x F.config F.joint (Develop n ri args)))
 
   pub is_many : length bound ≡ length (pattern_entries 1 rule.patterns)
   is_many = all_many x.equations 1 1 rule.patterns T.held.inherited bound T.yes

@@ -124,7 +124,8 @@ module _ (words : Words) (g : Grammar) (accepted : IsAccepted words g) (loads : 
   whole-more v [] x y c e t = let p : v ≡ x = same_Some _ _ e in ap (option_and_then (λ z. joint_run g z [])) (ap (λ v. joint_taken v c (joint_outcome v g c)) p ∙ t)
   whole-more v (d ∷ cs) x y c e t = go (joint_taken v d (joint_outcome v g d)) e (λ z f. whole-more z cs x y c f t)
     where
-      go : (o : Option Joint) → option_and_then (λ z. joint_run g z cs) o ≡ Some x → ((z : Joint) → joint_run g z cs ≡ Some x → joint_run g z (cs ++ c ∷ []) ≡ Some y) → option_and_then (λ z. joint_run g z (cs ++ c ∷ [])) o ≡ Some y
+      go : (o : Option Joint) → option_and_then (λ z. joint_run g z cs) o ≡ Some x →
+          ((z : Joint) → joint_run g z cs ≡ Some x → joint_run g z (cs ++ c ∷ []) ≡ Some y) → option_and_then (λ z. joint_run g z (cs ++ c ∷ [])) o ≡ Some y
       go None e f = absurd cc
       go (Some z) e f = f z e
 
@@ -156,7 +157,8 @@ module _ (words : Words) (g : Grammar) (accepted : IsAccepted words g) (loads : 
   same_grows : (w : World) → Grows (site_at w) (site_at w)
   same_grows w = record { equations = λ a r b f. f; held = λ a h m. inl m }
 
-  choose-on : (w : World) (x : Joint) → IsWorld w x → (c : Choice) → choice_ok g c ≡ true → (o : Outcome Ref Ref) → outcome g (site_at w (home g (node_of c))) c ≡ o → Goes w (chosen_at w (home g (node_of c)) c (choose_on g (site_at w (home g (node_of c))) c o))
+  choose-on : (w : World) (x : Joint) → IsWorld w x → (c : Choice) → choice_ok g c ≡ true → (o : Outcome Ref Ref) →
+      outcome g (site_at w (home g (node_of c))) c ≡ o → Goes w (chosen_at w (home g (node_of c)) c (choose_on g (site_at w (home g (node_of c))) c o))
   choose-on w x W c okc (Refused z) e = (x, W, same_grows w)
   choose-on w x W (Develop n ri args) okc Starts e = (x, W, same_grows w)
   choose-on w x W (Start st k) okc (Takes rule bound) e = (x, W, same_grows w)
@@ -204,7 +206,9 @@ module _ (words : Words) (g : Grammar) (accepted : IsAccepted words g) (loads : 
       let s = subst (λ q. Sound g (site_at w) x m.to q) e (W.inv.sound m i) in
       W.inv.range m.to d.left (W.inv.watched (home g d.left.node) d.left m.to s.0).1
 
-  deliver-on : (w : World) (x : Joint) → IsWorld w x → (k : ℕ) (m : Message) → slice_get w.messages k ≡ Some m → IsWorld (received_at w k m.to (receive g (site_at w m.to) m)).world x × Grows (site_at w) (site_at (received_at w k m.to (receive g (site_at w m.to) m)).world)
+  deliver-on : (w : World) (x : Joint) → IsWorld w x → (k : ℕ) (m : Message) → slice_get w.messages k ≡ Some m →
+      IsWorld (received_at w k m.to (receive g (site_at w m.to) m)).world x
+      × Grows (site_at w) (site_at (received_at w k m.to (receive g (site_at w m.to) m)).world)
   deliver-on w x W k m at =
       let l = to-within w x W m m.kind (member_got w.messages k m at) refl in
       let b : k < length w.delivered = (let z = slice_get_within w.messages k m at in omega (arith, z, W.marks)) in
@@ -213,7 +217,12 @@ module _ (words : Words) (g : Grammar) (accepted : IsAccepted words g) (loads : 
         | inr n ↦ subst (λ r. IsWorld (received_at w k m.to r).world x × Grows (site_at w) (site_at (received_at w k m.to r).world)) (sym n.0) (
           record {
             inv = noted g loads (site_at w) w.messages (λ k. slice_get w.delivered k ≡ Some true) (λ j. slice_get (slice_set w.delivered k true) j ≡ Some true) x W.inv k m at n.1
-                (λ j d. set-from w.delivered k j d) (λ j d. elim d [ inl o ↦ set-kept w.delivered k j o | inr p ↦ subst (λ j. slice_get (slice_set w.delivered k true) j ≡ Some true) (sym p) (set-here w.delivered k b) ]);
+                (λ j d. set-from w.delivered k j d)
+                (λ j d. elim d [
+                  | inl o ↦ set-kept w.delivered k j o
+                  | inr p ↦ subst (λ j. slice_get (slice_set w.delivered k true) j ≡ Some true)
+                      (sym p) (set-here w.delivered k b)
+                ]);
             whole = W.whole;
             fit_ = W.fit_;
             keyed = W.keyed;
@@ -230,31 +239,42 @@ module _ (words : Words) (g : Grammar) (accepted : IsAccepted words g) (loads : 
       new_one l b C =
           let r = react g (site_at w m.to) m.kind in (
             record {
-              inv = kept g loads (site_at w) (site_at (with_site w m.to (react g (site_at w m.to) m.kind))) m.to (site-other w m.to (react g (site_at w m.to) m.kind)) w.messages (react g (site_at w m.to) m.kind).sent
+              inv = kept g loads (site_at w) (site_at (with_site w m.to (react g (site_at w m.to) m.kind))) m.to
+                  (site-other w m.to (react g (site_at w m.to) m.kind)) w.messages (react g (site_at w m.to) m.kind).sent
                   (λ k. slice_get w.delivered k ≡ Some true) (λ j. slice_get (slice_set (w.delivered ++ map (λ m. false) (react g (site_at w m.to) m.kind).sent) k true) j ≡ Some true) (λ j. j ≡ k) x x
-                  (λ j d. elim (set-from (w.delivered ++ map (λ m. false) (react g (site_at w m.to) m.kind).sent) k j d) [ inl o ↦ inl (more-from w.delivered (react g (site_at w m.to) m.kind).sent j o) | inr p ↦ inr p ])
+                  (λ j d. elim (set-from (w.delivered ++ map (λ m. false) (react g (site_at w m.to) m.kind).sent) k j d)
+                  [ inl o ↦ inl (more-from w.delivered (react g (site_at w m.to) m.kind).sent j o) | inr p ↦ inr p ])
                   (λ j d. elim d [
-                    | inl o ↦ set-kept (w.delivered ++ map (λ m. false) (react g (site_at w m.to) m.kind).sent) k j (get-left w.delivered (map (λ m. false) (react g (site_at w m.to) m.kind).sent) j true o)
+                    | inl o ↦ set-kept (w.delivered ++ map (λ m. false) (react g (site_at w m.to) m.kind).sent) k j
+                        (get-left w.delivered (map (λ m. false) (react g (site_at w m.to) m.kind).sent) j true o)
                     | inr p ↦ subst (λ j. slice_get (slice_set (w.delivered ++ map (λ m. false) (react g (site_at w m.to) m.kind).sent) k true) j ≡ Some true) (sym p)
-                        (set-here (w.delivered ++ map (λ m. false) (react g (site_at w m.to) m.kind).sent) k (let z = length-more w.delivered (map (λ m. false) (react g (site_at w m.to) m.kind).sent) in omega (arith, z, b)))
+                        (set-here (w.delivered ++ map (λ m. false) (react g (site_at w m.to) m.kind).sent) k
+                        (let z = length-more w.delivered (map (λ m. false) (react g (site_at w m.to) m.kind).sent) in omega (arith, z, b)))
                   ])
-                  W.inv (subst (λ s. Change g loads (site_at w) w.messages x m.to s (react g (site_at w m.to) m.kind).sent x (λ j. j ≡ k)) (sym (site-set w m.to (react g (site_at w m.to) m.kind) W.size l)) C);
+                  W.inv (subst (λ s. Change g loads (site_at w) w.messages x m.to s (react g (site_at w m.to) m.kind).sent x (λ j. j ≡ k))
+                  (sym (site-set w m.to (react g (site_at w m.to) m.kind) W.size l)) C);
               whole = W.whole;
               fit_ = W.fit_;
               keyed = W.keyed;
               valid = W.valid;
               size = length-set w.sites m.to (react g (site_at w m.to) m.kind).site ∙ W.size;
-              marks = length-set (w.delivered ++ map (λ m. false) (react g (site_at w m.to) m.kind).sent) k true ∙ length-both w.messages w.delivered (λ m. false) (react g (site_at w m.to) m.kind).sent W.marks;
+              marks = length-set (w.delivered ++ map (λ m. false) (react g (site_at w m.to) m.kind).sent) k true ∙ length-both w.messages w.delivered
+                  (λ m. false) (react g (site_at w m.to) m.kind).sent W.marks;
             },
-            grown g loads (site_at w) (site_at (with_site w m.to (react g (site_at w m.to) m.kind))) m.to (site-other w m.to (react g (site_at w m.to) m.kind)) w.messages (react g (site_at w m.to) m.kind).sent
+            grown g loads (site_at w) (site_at (with_site w m.to (react g (site_at w m.to) m.kind))) m.to
+                (site-other w m.to (react g (site_at w m.to) m.kind)) w.messages (react g (site_at w m.to) m.kind).sent
                 (λ k. slice_get w.delivered k ≡ Some true) (λ j. slice_get (slice_set (w.delivered ++ map (λ m. false) (react g (site_at w m.to) m.kind).sent) k true) j ≡ Some true) (λ j. j ≡ k) x x
-                (λ j d. elim (set-from (w.delivered ++ map (λ m. false) (react g (site_at w m.to) m.kind).sent) k j d) [ inl o ↦ inl (more-from w.delivered (react g (site_at w m.to) m.kind).sent j o) | inr p ↦ inr p ])
+                (λ j d. elim (set-from (w.delivered ++ map (λ m. false) (react g (site_at w m.to) m.kind).sent) k j d)
+                [ inl o ↦ inl (more-from w.delivered (react g (site_at w m.to) m.kind).sent j o) | inr p ↦ inr p ])
                 (λ j d. elim d [
-                  | inl o ↦ set-kept (w.delivered ++ map (λ m. false) (react g (site_at w m.to) m.kind).sent) k j (get-left w.delivered (map (λ m. false) (react g (site_at w m.to) m.kind).sent) j true o)
+                  | inl o ↦ set-kept (w.delivered ++ map (λ m. false) (react g (site_at w m.to) m.kind).sent) k j
+                      (get-left w.delivered (map (λ m. false) (react g (site_at w m.to) m.kind).sent) j true o)
                   | inr p ↦ subst (λ j. slice_get (slice_set (w.delivered ++ map (λ m. false) (react g (site_at w m.to) m.kind).sent) k true) j ≡ Some true) (sym p)
-                      (set-here (w.delivered ++ map (λ m. false) (react g (site_at w m.to) m.kind).sent) k (let z = length-more w.delivered (map (λ m. false) (react g (site_at w m.to) m.kind).sent) in omega (arith, z, b)))
+                      (set-here (w.delivered ++ map (λ m. false) (react g (site_at w m.to) m.kind).sent) k
+                      (let z = length-more w.delivered (map (λ m. false) (react g (site_at w m.to) m.kind).sent) in omega (arith, z, b)))
                 ])
-                W.inv (subst (λ s. Change g loads (site_at w) w.messages x m.to s (react g (site_at w m.to) m.kind).sent x (λ j. j ≡ k)) (sym (site-set w m.to (react g (site_at w m.to) m.kind) W.size l)) C),
+                W.inv (subst (λ s. Change g loads (site_at w) w.messages x m.to s (react g (site_at w m.to) m.kind).sent x (λ j. j ≡ k))
+                (sym (site-set w m.to (react g (site_at w m.to) m.kind) W.size l)) C),
           )
 
   deliver-both : (w : World) (x : Joint) → IsWorld w x → (k : ℕ) → IsWorld (deliver g w k).world x × Grows (site_at w) (site_at (deliver g w k).world)

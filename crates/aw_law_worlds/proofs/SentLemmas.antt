@@ -23,7 +23,8 @@ use Rattle.aw_law_worlds.proofs.Lists.{Later-mapped, later_both}
 use Rattle.aw_law_worlds.proofs.Parts.{Apart, Kin}
 
 module _ (g : Grammar) (s : Site) where
-  out_step : (t : Bool) (c : Call) (cs : List Call) (m : Message) → nat_eq (home g c.node) s.role ≡ t → (Member m (calls_out g s cs) → (d : Call) × Member d cs × (home g d.node ≡ s.role → Never) × (m ≡ call_out g s d))
+  out_step : (t : Bool) (c : Call) (cs : List Call) (m : Message) → nat_eq (home g c.node) s.role ≡ t →
+      (Member m (calls_out g s cs) → (d : Call) × Member d cs × (home g d.node ≡ s.role → Never) × (m ≡ call_out g s d))
       → Member m (cond t (calls_out g s cs) (call_out g s c ∷ calls_out g s cs)) → (d : Call) × Member d (c ∷ cs) × (home g d.node ≡ s.role → Never) × (m ≡ call_out g s d)
   out_step true c cs m e f i = let (d, j, n, p) = f i in (d, inr j, n, p)
   out_step false c cs m e f (inl p) = (c, inl refl, λ q. (let z = eq-eqb (home g c.node) s.role q in absurd cc), p)
@@ -33,7 +34,8 @@ module _ (g : Grammar) (s : Site) where
   out_case [] m i = never i
   out_case (c ∷ cs) m i = out_step (nat_eq (home g c.node) s.role) c cs m refl (out_case cs m) i
 
-  has_step : (t : Bool) (c d : Call) (cs : List Call) → nat_eq (home g c.node) s.role ≡ t → (home g d.node ≡ s.role → Never) → (d ≡ c) ⊎ Member (call_out g s d) (calls_out g s cs) → Member (call_out g s d) (cond t (calls_out g s cs) (call_out g s c ∷ calls_out g s cs))
+  has_step : (t : Bool) (c d : Call) (cs : List Call) → nat_eq (home g c.node) s.role ≡ t → (home g d.node ≡ s.role → Never) → (d ≡ c)
+      ⊎ Member (call_out g s d) (calls_out g s cs) → Member (call_out g s d) (cond t (calls_out g s cs) (call_out g s c ∷ calls_out g s cs))
   has_step true c d cs e n (inl p) = never (n (ap (λ (c : Call). home g c.node) p ∙ eqb-true (home g c.node) s.role e))
   has_step true c d cs e n (inr i) = i
   has_step false c d cs e n (inl p) = inl (ap (call_out g s) p)
@@ -44,7 +46,8 @@ module _ (g : Grammar) (s : Site) where
   out_has (c ∷ cs) d (inl p) n = has_step (nat_eq (home g c.node) s.role) c d cs refl n (inl p)
   out_has (c ∷ cs) d (inr i) n = has_step (nat_eq (home g c.node) s.role) c d cs refl n (inr (out_has cs d i n))
 
-  apart_step : (t : Bool) (c : Call) (cs : List Call) → Each (λ (d : Call). c.node ≡ d.node → Never) cs → Later Apart (calls_out g s cs) → Later Apart (cond t (calls_out g s cs) (call_out g s c ∷ calls_out g s cs))
+  apart_step : (t : Bool) (c : Call) (cs : List Call) → Each (λ (d : Call). c.node ≡ d.node → Never) cs → Later Apart (calls_out g s cs) →
+      Later Apart (cond t (calls_out g s cs) (call_out g s c ∷ calls_out g s cs))
   apart_step true c cs e l = l
   apart_step false c cs e l = (
     each_of (Apart (call_out g s c)) (calls_out g s cs) (λ m i k. let (d, j, n, p) = out_case cs m i in
@@ -117,7 +120,8 @@ module _ (g : Grammar) (s : Site) where
       (subst (λ (m : Message). Kin m n → e.left ≡ f.left) (sym p) (subst (λ (n : Message). Kin (tell g s e a) n → e.left ≡ f.left) (sym q) (λ k. k.1)) k))
 
 module _ (g : Grammar) (role : ℕ) where
-  in_step : (t : Bool) (c : Call) (cs : List Call) (h : Held) → nat_eq (home g c.node) role ≡ t → (Member h (calls_in g role cs) → (d : Call) × Member d cs × (home g d.node ≡ role) × (h ≡ called_held d))
+  in_step : (t : Bool) (c : Call) (cs : List Call) (h : Held) → nat_eq (home g c.node) role ≡ t →
+      (Member h (calls_in g role cs) → (d : Call) × Member d cs × (home g d.node ≡ role) × (h ≡ called_held d))
       → Member h (cond t (called_held c ∷ calls_in g role cs) (calls_in g role cs)) → (d : Call) × Member d (c ∷ cs) × (home g d.node ≡ role) × (h ≡ called_held d)
   in_step true c cs h e f (inl p) = (c, inl refl, eqb-true (home g c.node) role e, p)
   in_step true c cs h e f (inr i) = let (d, j, n, p) = f i in (d, inr j, n, p)
@@ -127,7 +131,8 @@ module _ (g : Grammar) (role : ℕ) where
   in_case [] h i = never i
   in_case (c ∷ cs) h i = in_step (nat_eq (home g c.node) role) c cs h refl (in_case cs h) i
 
-  there_step : (t : Bool) (c d : Call) (cs : List Call) → nat_eq (home g c.node) role ≡ t → home g d.node ≡ role → (d ≡ c) ⊎ Member (called_held d) (calls_in g role cs) → Member (called_held d) (cond t (called_held c ∷ calls_in g role cs) (calls_in g role cs))
+  there_step : (t : Bool) (c d : Call) (cs : List Call) → nat_eq (home g c.node) role ≡ t → home g d.node ≡ role → (d ≡ c) ⊎ Member (called_held d)
+      (calls_in g role cs) → Member (called_held d) (cond t (called_held c ∷ calls_in g role cs) (calls_in g role cs))
   there_step true c d cs e h (inl p) = inl (ap called_held p)
   there_step true c d cs e h (inr i) = inr i
   there_step false c d cs e h (inl p) = let z = eq-eqb (home g c.node) role (ap (λ (c : Call). home g c.node) (sym p) ∙ h) in absurd cc
@@ -140,7 +145,8 @@ module _ (g : Grammar) (role : ℕ) where
 
 -- the calls of a choice
 module _ (n : Node) (ri : ℕ) (f : ℕ → Ref) where
-  pub call_case : (cs : List Child) (i k : ℕ) (c : Call) → Member c (lay_children n ri f i k cs).roots → (j : ℕ) × (d : Child) × (slice_get cs j ≡ Some d) × (c.node ≡ below n ri (i + j)) × (c.sort ≡ d.sort)
+  pub call_case : (cs : List Child) (i k : ℕ) (c : Call) → Member c (lay_children n ri f i k cs).roots → (j : ℕ) × (d : Child)
+      × (slice_get cs j ≡ Some d) × (c.node ≡ below n ri (i + j)) × (c.sort ≡ d.sort)
   call_case [] i k c m = never m
   call_case (d ∷ cs) i k c (inl p) =
       let z : i ≡ i + 0 = omega arith in

@@ -22,7 +22,8 @@ after_more : (g : Grammar) (s u v : ℕ) (steps : List Step) (t : Step) → sort
 after_more g s u v [] t e f = ap (option_and_then (λ t. Some t)) (ap (λ s. sort_of_step g s t) (same_Some _ _ e) ∙ f)
 after_more g s u v (x ∷ xs) t e f = go (sort_of_step g s x) e (λ r z. after_more g r u v xs t z f)
   where
-    go : (o : Option ℕ) → option_and_then (λ t. sort_after g t xs) o ≡ Some u → ((r : ℕ) → sort_after g r xs ≡ Some u → sort_after g r (xs ++ t ∷ []) ≡ Some v) → option_and_then (λ r. sort_after g r (xs ++ t ∷ [])) o ≡ Some v
+    go : (o : Option ℕ) → option_and_then (λ t. sort_after g t xs) o ≡ Some u →
+        ((r : ℕ) → sort_after g r xs ≡ Some u → sort_after g r (xs ++ t ∷ []) ≡ Some v) → option_and_then (λ r. sort_after g r (xs ++ t ∷ [])) o ≡ Some v
     go None z h = absurd cc
     go (Some r) z h = h r z
 
@@ -39,7 +40,8 @@ sort_below g n u v r k e f = go (slice_get g.sorts n.start) e
     go None z = absurd cc
     go (Some s) z = by_start s.start z
 
-pub step_sort : (g : Grammar) (rule : Rule) (r i : ℕ) (d : Child) → slice_get g.rules r ≡ Some rule → slice_get rule.children i ≡ Some d → sort_of_step g rule.sort (record { rule = r; child = suc i }) ≡ Some d.sort
+pub step_sort : (g : Grammar) (rule : Rule) (r i : ℕ) (d : Child) → slice_get g.rules r ≡ Some rule → slice_get rule.children i ≡ Some d →
+    sort_of_step g rule.sort (record { rule = r; child = suc i }) ≡ Some d.sort
 step_sort g rule r i d e f =
     ap (option_and_then (λ (q : Rule). cond (nat_eq q.sort rule.sort) (option_map (λ (c : Child). c.sort) (child_at q.children (suc i))) None)) e
     ∙ (ap (λ b. cond b (option_map (λ (c : Child). c.sort) (slice_get rule.children i)) None) (eq-eqb rule.sort rule.sort refl) ∙ ap (option_map (λ (c : Child). c.sort)) f)

@@ -31,9 +31,11 @@ pub record IsHomed (g : Grammar) : Type 0 where
   pub few : g.roles ≤ 64
   pub within : (n : Node) → is_some (sort_of g n) ≡ true → home g n < g.roles
 
-module _ (g : Grammar) (fit : IsGivenGrammar g) (enter : VariablesEnter g) (ok : HasNoCircle g (IO g)) (roles : IsHomed g) (loads : Bool) (S : ℕ → Site) (M : List Message) (D : ℕ → Type 0) (x : Joint) (I : Inv g loads S M D x) (F : Fit g fit enter ok x) (keyed : Keyed x.equations) where
+module _ (g : Grammar) (fit : IsGivenGrammar g) (enter : VariablesEnter g) (ok : HasNoCircle g (IO g)) (roles : IsHomed g) (loads : Bool)
+    (S : ℕ → Site) (M : List Message) (D : ℕ → Type 0) (x : Joint) (I : Inv g loads S M D x) (F : Fit g fit enter ok x) (keyed : Keyed x.equations) where
   -- a node that a site has been called to has steps
-  pub called_below : (m : Message) (q : Kind) (c : Call) → Member m M → m.kind ≡ q → KindKin q (Calls c []) → (h : Held) × Member h x.held × (h.node ≡ c.node) × ((p : Node) × (r : ℕ) × (k : ℕ) × (c.node ≡ below p r k))
+  pub called_below : (m : Message) (q : Kind) (c : Call) → Member m M → m.kind ≡ q → KindKin q (Calls c []) → (h : Held) × Member h x.held
+      × (h.node ≡ c.node) × ((p : Node) × (r : ℕ) × (k : ℕ) × (c.node ≡ below p r k))
   called_below m (Asks r b) c i e z = never z
   called_below m (Tells f l) c i e z = never z
   called_below m (Calls d l) c i e z =

@@ -23,7 +23,9 @@ use Rattle.aw_law_sites.specs.Reacting.{react}
 use Rattle.aw_law_sites.specs.Sites.{Reaction, Site}
 use Rattle.aw_law_sites.specs.Worlds.{IsQuiet, Delivers, node_of, Move, World, deliver, run, settle, site_at, undelivered, gather}
 use Rattle.aw_law_worlds.specs.Invariant.{equation}
-use Rattle.aw_law_worlds.specs.Laws.{Artifacts, Headline, HoldsConfig, HomesAreRoles, InvariantHolds, Knowledge, MayCome, MessagesAreBounded, NoCircle, QuietHolds, Repeats, RuleStaysEnabled, SettlingIsDelivering, StartStaysEnabled, Stays, world_after, ValuesAreFinite, PrintsOne, QuietAnswers, OneRole}
+use Rattle.aw_law_worlds.specs.Laws.{Artifacts, Headline, HoldsConfig, HomesAreRoles, InvariantHolds, Knowledge, MayCome, MessagesAreBounded, NoCircle}
+use Rattle.aw_law_worlds.specs.Laws.{QuietHolds, Repeats, RuleStaysEnabled, SettlingIsDelivering, StartStaysEnabled, Stays, world_after}
+use Rattle.aw_law_worlds.specs.Laws.{ValuesAreFinite, PrintsOne, QuietAnswers, OneRole}
 use Rattle.aw_law_worlds.proofs.QuietAnswers.{quiet_answer, no_messages, always_quiet}
 use Rattle.aw_law_worlds.proofs.Learning.{find-member}
 use Rattle.aw_law_worlds.proofs.PartValues.{part_acyclic, rows_of_values}
@@ -81,9 +83,11 @@ module _ (words : Words) (g : Grammar) (accepted : IsAccepted words g) where
   repeats_law loads es a k m e =
       let (x, W) = at_end loads es a in
       let l = to-within words g accepted loads (world_after g loads es) x W m m.kind (member_got (world_after g loads es).messages k m e) refl in (
-        (λ d. repeats g loads (site_at (world_after g loads es)) (world_after g loads es).messages _ x W.inv W.keyed (fit_of g fit enter ok x W.fit_).apart W.valid.0 m.to k m e refl l ((W.inv.effect k m e).0 d)),
+        (λ d. repeats g loads (site_at (world_after g loads es)) (world_after g loads es).messages _ x W.inv W.keyed
+            (fit_of g fit enter ok x W.fit_).apart W.valid.0 m.to k m e refl l ((W.inv.effect k m e).0 d)),
         (λ f r. (W.inv.effect k m e).1 (without-loads loads (site_at (world_after g loads es) m.to) m.kind f
-            (new-or-known _ _ _ _ (received g loads (site_at (world_after g loads es)) (world_after g loads es).messages _ x W.inv W.keyed (fit_of g fit enter ok x W.fit_).apart W.valid.0 m.to k m e refl l) r))),
+            (new-or-known _ _ _ _ (received g loads (site_at (world_after g loads es)) (world_after g loads es).messages _ x W.inv W.keyed
+            (fit_of g fit enter ok x W.fit_).apart W.valid.0 m.to k m e refl l) r))),
       )
 
   pub circle_law : NoCircle g
@@ -103,7 +107,8 @@ module _ (words : Words) (g : Grammar) (accepted : IsAccepted words g) where
   rule_law loads es a later k b n r args rule bound f =
       let (x, W) = at_end loads es a in
       let (y, V, G) = run-both words g accepted loads later (world_after g loads es) x W k in
-      rule_stays g (site_at (world_after g loads es) b) (site_at (run g (world_after g loads es) later) b) (G.equations b) (G.held b) (one_each words g accepted loads (run g (world_after g loads es) later) y V b) n r args rule bound f
+      rule_stays g (site_at (world_after g loads es) b) (site_at (run g (world_after g loads es) later) b) (G.equations b) (G.held b)
+      (one_each words g accepted loads (run g (world_after g loads es) later) y V b) n r args rule bound f
 
   pub start_law : StartStaysEnabled g
   start_law loads es a later k s l f n = let (x, W) = at_end loads es a in start_stays_on words g accepted loads later (world_after g loads es) x W k s l f n
@@ -144,12 +149,14 @@ module _ (words : Words) (g : Grammar) (accepted : IsAccepted words g) where
   pub values_law : ValuesAreFinite g
   values_law loads es a b =
       let (x, W) = at_end loads es a in
-      part_acyclic x.equations (site_at (world_after g loads es) b).equations (λ r c f. W.keyed (equation r c) (W.inv.parts b (equation r c) (find-member (site_at (world_after g loads es) b).equations r c f)))
+      part_acyclic x.equations (site_at (world_after g loads es) b).equations
+      (λ r c f. W.keyed (equation r c) (W.inv.parts b (equation r c) (find-member (site_at (world_after g loads es) b).equations r c f)))
       (acyclic_law words g accepted (world_after g loads es).taken x W.whole)
 
   pub printed_law : PrintsOne words g
   printed_law loads es a =
-      let (rows, r) = rows_of_values g (λ h. (site_at (world_after g loads es) (home g h.node)).equations) (λ h s. (values_law loads es a (home g h.node)).values s) (gather (world_after g loads es).sites) in
+      let (rows, r) = rows_of_values g (λ h. (site_at (world_after g loads es) (home g h.node)).equations)
+      (λ h s. (values_law loads es a (home g h.node)).values s) (gather (world_after g loads es).sites) in
       (artifact_text words rows, (rows, r, refl), λ other p. read_only words g (world_after g loads es) rows r other p)
 
   pub bound_law : MessagesAreBounded g

@@ -1,5 +1,6 @@
 -- What stands at the front is a token of its kind, which has a byte and does not reach past the end.
-use Rattle.std.proofs.Common.{◌≡◌, ℕ, suc, ◌+◌, ◌-◌, ◌<◌, ◌≤◌, refl, sym, ap, subst, inl, inr, Bool, true, false, cond, ◌==◌, List, [], ◌∷◌, take, length, arith, Option, Some, None, is_some, option_map, IfSome}
+use Rattle.std.proofs.Common.{◌≡◌, ℕ, suc, ◌+◌, ◌-◌, ◌<◌, ◌≤◌, refl, sym, ap, subst, inl, inr, Bool, true, false, cond, ◌==◌, List, [], ◌∷◌, take}
+use Rattle.std.proofs.Common.{length, arith, Option, Some, None, is_some, option_map, IfSome}
 use Rattle.std.proofs.lemmas.Bool.Decides.{eqb_tells}
 use Rattle.aw_spelling.specs.Spelling.{is_name, number_of, node_name, unquoted, text_behind_quote}
 use Rattle.aw_spelling.proofs.TextEnds.{text_stands_alone}

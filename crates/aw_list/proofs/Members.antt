@@ -24,7 +24,8 @@ below_or_at (suc k) zero lt = absurd (omega arith)
 below_or_at (suc k) (suc i) lt = let l : k < i + 1 = omega arith in elim (below_or_at k i l) [ inl a ↦ inl (omega arith) | inr b ↦ inr (ap suc b) ]
 
 -- what holds of each item before a place, and of the one there, holds of each up to it
-pub each_more : {A : Type 0} (P : A → Type 0) (xs : List A) (i : ℕ) (d : A) → ((k : ℕ) → k < i → (x : A) → slice_get xs k ≡ Some x → P x) → P (get_or xs i d) → (k : ℕ) → k < i + 1 → (x : A) → slice_get xs k ≡ Some x → P x
+pub each_more : {A : Type 0} (P : A → Type 0) (xs : List A) (i : ℕ) (d : A) → ((k : ℕ) → k < i → (x : A) → slice_get xs k ≡ Some x → P x) →
+    P (get_or xs i d) → (k : ℕ) → k < i + 1 → (x : A) → slice_get xs k ≡ Some x → P x
 each_more P xs i d before here k lt x e = elim (below_or_at k i lt) [ inl less ↦ before k less x e | inr same ↦ subst P (get_or_from_slice_get xs i x d (ap (slice_get xs) (sym same) ∙ e)) here ]
 
 pub member_left : {A : Type 0} (x : A) (xs ys : List A) → Member x xs → Member x (xs ++ ys)

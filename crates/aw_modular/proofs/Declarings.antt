@@ -28,13 +28,15 @@ has_sort g io t made at = let below : t.sort < length g.sorts = subst (λ n. t.s
 pub number_inherited : (g : Grammar) (t : Triple) → IsPosition (grammar_of g).sorts t → IsNumber t.i
 number_inherited g t at = record {
   counted = at.inherited;
-  few = let le : takes_of (slice_get (grammar_of g).sorts t.sort) ≤ most_inherited = ∥∥₁_elim g.well_formed le_prop (λ w. takes_few (grammar_of g).roles (grammar_of g).sorts w.sorts t.sort) in omega (arith, at.takes, le);
+  few = let le : takes_of (slice_get (grammar_of g).sorts t.sort) ≤ most_inherited = ∥∥₁_elim g.well_formed le_prop
+      (λ w. takes_few (grammar_of g).roles (grammar_of g).sorts w.sorts t.sort) in omega (arith, at.takes, le);
 }
 
 pub number_result : (g : Grammar) (t : Triple) → IsPosition (grammar_of g).sorts t → IsNumber t.j
 number_result g t at = record {
   counted = at.result;
-  few = let le : gives_of (slice_get (grammar_of g).sorts t.sort) ≤ most_results = ∥∥₁_elim g.well_formed le_prop (λ w. gives_few (grammar_of g).roles (grammar_of g).sorts w.sorts t.sort) in omega (arith, at.gives, le);
+  few = let le : gives_of (slice_get (grammar_of g).sorts t.sort) ≤ most_results = ∥∥₁_elim g.well_formed le_prop
+      (λ w. gives_few (grammar_of g).roles (grammar_of g).sorts w.sorts t.sort) in omega (arith, at.gives, le);
 }
 
 -- all of them declare what the list declares
@@ -54,7 +56,8 @@ last_before ts n t at s i j (k, lt, e) =
     ]
 
 -- of the sorts with Q, one declared triple more
-pub declares_more : (Q : ℕ → Type 0) (ts : List Triple) (n : ℕ) (t : Triple) (old new : Io) → slice_get ts n ≡ Some t → ((s i j : ℕ) → Has old s i j ↔ (Q s × DeclaresBefore ts n s i j)) → AddsOne old new Q t
+pub declares_more : (Q : ℕ → Type 0) (ts : List Triple) (n : ℕ) (t : Triple) (old new : Io) → slice_get ts n ≡ Some t →
+    ((s i j : ℕ) → Has old s i j ↔ (Q s × DeclaresBefore ts n s i j)) → AddsOne old new Q t
     → (s i j : ℕ) → Has new s i j ↔ (Q s × DeclaresBefore ts (n + 1) s i j)
 declares_more Q ts n t old new at so adds s i j = (
   (λ has. elim ((adds s i j).0 has) [
@@ -84,7 +87,8 @@ item_got xs ts i d same lt = subst (λ (zs : List Triple). slice_get zs i ≡ So
     got (y ∷ ys) zero l = refl
     got (y ∷ ys) (suc k) l = got ys k (omega (arith, l))
 
-pub declares_all : (Q : ℕ → Type 0) (ts : List Triple) (n : ℕ) (io : Io) → length ts ≤ n → ((s i j : ℕ) → Has io s i j ↔ (Q s × DeclaresBefore ts n s i j)) → (s i j : ℕ) → Has io s i j ↔ (Q s × Declares ts s i j)
+pub declares_all : (Q : ℕ → Type 0) (ts : List Triple) (n : ℕ) (io : Io) → length ts ≤ n →
+    ((s i j : ℕ) → Has io s i j ↔ (Q s × DeclaresBefore ts n s i j)) → (s i j : ℕ) → Has io s i j ↔ (Q s × Declares ts s i j)
 declares_all Q ts n io le so s i j = (
   (λ has. let x = (so s i j).0 has in (x.0, before_all ts n s i j x.1)),
   (λ x. (so s i j).1 (x.0, all_before ts n le s i j x.1)),
@@ -98,7 +102,8 @@ adds_any Q t old new q adds s i j = (
 )
 
 -- what holds of each item before a place and of the one there
-pub positions_more : (P : Triple → Type 0) (ts : List Triple) (n : ℕ) (t : Triple) → slice_get ts n ≡ Some t → ((k : ℕ) → k < n → (u : Triple) → slice_get ts k ≡ Some u → P u) → P t → (k : ℕ) → k < n + 1 → (u : Triple) → slice_get ts k ≡ Some u → P u
+pub positions_more : (P : Triple → Type 0) (ts : List Triple) (n : ℕ) (t : Triple) → slice_get ts n ≡ Some t →
+    ((k : ℕ) → k < n → (u : Triple) → slice_get ts k ≡ Some u → P u) → P t → (k : ℕ) → k < n + 1 → (u : Triple) → slice_get ts k ≡ Some u → P u
 positions_more P ts n t at before p k lt u got =
     elim (below_or_at k n lt) [
       | inl less ↦ before k less u got

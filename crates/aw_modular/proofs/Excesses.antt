@@ -45,7 +45,8 @@ least_same P Q None there back none = λ t q. none t (back t q)
 least_same P Q (Some t) there back least = (there t least.0, λ u q. least.1 u (back u q))
 
 -- the pairs with P are of numbers, and none is before a place
-module _ (P : Triple → Type 0) (numbers : (t : Triple) → P t → IsNumber t.i × IsNumber t.j) (n : ℕ) (before : (t : Triple) → P t → mark t < n → Never) (t : Triple) (at : mark t ≡ n) (i : IsNumber t.i) (j : IsNumber t.j) where
+module _ (P : Triple → Type 0) (numbers : (t : Triple) → P t → IsNumber t.i × IsNumber t.j) (n : ℕ) (before : (t : Triple) → P t → mark t < n → Never)
+    (t : Triple) (at : mark t ≡ n) (i : IsNumber t.i) (j : IsNumber t.j) where
   pub here_least : P t → LeastPair P (Some t)
   here_least p = (p, λ u q. elim (cases (mark u) n) [ inl less ↦ never (before u q less) | inr le ↦ up_to t u i j (numbers u q).0 (numbers u q).1 (omega (arith, at, le)) ])
     where

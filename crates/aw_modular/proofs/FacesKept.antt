@@ -8,7 +8,8 @@ use Rattle.aw_face.specs.declared.faces.Faces.{Faces}
 use Rattle.aw_face.specs.Faces.{rule_fault, rules_fault, at_rule, face_fault}
 use Rattle.aw_modular.proofs.Joining.{rule_keeps}
 
-none_at : (sorts : List Sort) (offers : List ℕ) (uses : List Using) (i : ℕ) (rs : List Rule) → ((r : Rule) → Member r rs → rule_fault sorts offers uses r ≡ None) → rules_fault sorts offers uses i rs ≡ None
+none_at : (sorts : List Sort) (offers : List ℕ) (uses : List Using) (i : ℕ) (rs : List Rule) →
+    ((r : Rule) → Member r rs → rule_fault sorts offers uses r ≡ None) → rules_fault sorts offers uses i rs ≡ None
 none_at sorts offers uses i [] all = refl
 none_at sorts offers uses i (r ∷ rs) all =
     ap (λ fault. at_rule i fault (rules_fault sorts offers uses (suc i) rs)) (all r (inl refl)) ∙ none_at sorts offers uses (suc i) rs (λ x m. all x (inr m))

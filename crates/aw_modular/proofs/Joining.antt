@@ -26,7 +26,9 @@ used_cases true true e = refl
 used_cases true false e = absurd cc
 used_cases false o e = absurd cc
 
-kind_cases : (b : Bool) (offers : List ℕ) (uses : List Using) (role a sort : ℕ) → nat_eq a role ≡ b → cond b None (cond (is_used role sort uses) (cond (is_offered sort offers) None (Some NotOffered)) (Some NotUsed)) ≡ None → (a ≡ role) ⊎ (is_offered sort offers ≡ true)
+kind_cases : (b : Bool) (offers : List ℕ) (uses : List Using) (role a sort : ℕ) → nat_eq a role ≡ b →
+    cond b None (cond (is_used role sort uses) (cond (is_offered sort offers) None (Some NotOffered)) (Some NotUsed)) ≡ None → (a ≡ role)
+    ⊎ (is_offered sort offers ≡ true)
 kind_cases true offers uses role a sort t e = inl (eqb-true a role t)
 kind_cases false offers uses role a sort t e = inr (used_cases (is_used role sort uses) (is_offered sort offers) e)
 
@@ -34,12 +36,14 @@ kept_here : (k : ℕ) (kind : Option FaceKind) (later : Option (ℕ × FaceKind)
 kept_here k None later e = (refl, e)
 kept_here k (Some x) later e = absurd cc
 
-child_keeps : (sorts : List Sort) (offers : List ℕ) (uses : List Using) (role k : ℕ) (cs : List Child) → children_fault sorts offers uses role k cs ≡ None → (c : Child) → Member c cs → (role_of sorts c.sort ≡ role) ⊎ (is_offered c.sort offers ≡ true)
+child_keeps : (sorts : List Sort) (offers : List ℕ) (uses : List Using) (role k : ℕ) (cs : List Child) → children_fault sorts offers uses role k
+    cs ≡ None → (c : Child) → Member c cs → (role_of sorts c.sort ≡ role) ⊎ (is_offered c.sort offers ≡ true)
 child_keeps sorts offers uses role k [] e c m = never m
 child_keeps sorts offers uses role k (d ∷ cs) e c m =
     let (a, b) = kept_here k (kind_between offers uses role (role_of sorts d.sort) d.sort) (children_fault sorts offers uses role (suc k) cs) e in
     elim m [
-      | inl same ↦ subst (λ (x : Child). (role_of sorts x.sort ≡ role) ⊎ (is_offered x.sort offers ≡ true)) (sym same) (kind_cases (nat_eq (role_of sorts d.sort) role) offers uses role (role_of sorts d.sort) d.sort refl a)
+      | inl same ↦ subst (λ (x : Child). (role_of sorts x.sort ≡ role) ⊎ (is_offered x.sort offers ≡ true)) (sym same)
+          (kind_cases (nat_eq (role_of sorts d.sort) role) offers uses role (role_of sorts d.sort) d.sort refl a)
       | inr n ↦ child_keeps sorts offers uses role (suc k) cs b c n
     ]
 
@@ -47,7 +51,8 @@ kept_rule : (i : ℕ) (fault : Option (ℕ × FaceKind)) (later : Option (ℕ ×
 kept_rule i None later e = (refl, e)
 kept_rule i (Some x) later e = absurd cc
 
-pub rule_keeps : (sorts : List Sort) (offers : List ℕ) (uses : List Using) (i : ℕ) (rs : List Rule) → rules_fault sorts offers uses i rs ≡ None → (r : Rule) → Member r rs → rule_fault sorts offers uses r ≡ None
+pub rule_keeps : (sorts : List Sort) (offers : List ℕ) (uses : List Using) (i : ℕ) (rs : List Rule) → rules_fault sorts offers uses i rs ≡ None →
+    (r : Rule) → Member r rs → rule_fault sorts offers uses r ≡ None
 rule_keeps sorts offers uses i [] e r m = never m
 rule_keeps sorts offers uses i (x ∷ rs) e r m =
     let (a, b) = kept_rule i (rule_fault sorts offers uses x) (rules_fault sorts offers uses (suc i) rs) e in
@@ -121,7 +126,8 @@ module _ (offers : List ℕ) (declared : List Triple) (parts : List Part) (g : G
   edge_within k p got r m (text v t a b x) = text v t a b x
   edge_within k p got r m (call n i l c f x) = call n i l c f (by_role k p got r m n c f i l x (nat_eq (role_of p.grammar.sorts c.sort) k) refl)
 
-  plus_within : (k : ℕ) (p : Part) (got : slice_get parts k ≡ Some p) (r : Rule) (m : Member r p.grammar.rules) {o u : Occ} → Plus (Edge r Within) o u → Plus (Edge r (Mixed p.grammar k (Own k p) D)) o u
+  plus_within : (k : ℕ) (p : Part) (got : slice_get parts k ≡ Some p) (r : Rule) (m : Member r p.grammar.rules) {o u : Occ} →
+      Plus (Edge r Within) o u → Plus (Edge r (Mixed p.grammar k (Own k p) D)) o u
   plus_within k p got r m (step e) = step (edge_within k p got r m e)
   plus_within k p got r m (more e w) = more (edge_within k p got r m e) (plus_within k p got r m w)
 

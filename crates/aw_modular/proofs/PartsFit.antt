@@ -45,7 +45,8 @@ no_more : (names few : List (List ℕ)) → Each (λ n. Member n names) few → 
 no_more names few m d = elim (cases (length few) (length names)) [ inl le ↦ le | inr lt ↦ (let (z, differs) = pigeon (λ a b. a ≢ b) names few m d lt in absurd (differs refl)) ]
 
 -- rules of a well-formed grammar whose names differ make one
-good_among : (roles : List (List ℕ)) (cons : List Con) (sorts : List Sort) (rules few : List Rule) → Each (λ r. Member r rules) few → Differ (map name few) → Good roles cons sorts rules → Good roles cons sorts few
+good_among : (roles : List (List ℕ)) (cons : List Con) (sorts : List Sort) (rules few : List Rule) → Each (λ r. Member r rules) few →
+    Differ (map name few) → Good roles cons sorts rules → Good roles cons sorts few
 good_among roles cons sorts rules few m d w =
     let con_names = map (λ (c : Con). c.name) cons in
     let sort_names = map (λ (s : Sort). s.name) sorts in
@@ -60,7 +61,8 @@ good_among roles cons sorts rules few m d w =
       few_cons = w.few_cons;
       few_sorts = w.few_sorts;
       few_rules = omega (arith, w.few_rules, le);
-      names = four_to (λ n. is_name n ≡ true) roles con_names sort_names (map name few) names.roles_fit names.cons_fit names.sorts_fit (each_among (λ n. is_name n ≡ true) name rules few m names.rules_fit);
+      names = four_to (λ n. is_name n ≡ true) roles con_names sort_names (map name few) names.roles_fit names.cons_fit names.sorts_fit
+          (each_among (λ n. is_name n ≡ true) name rules few m names.rules_fit);
       roles_differ = w.roles_differ;
       cons_differ = w.cons_differ;
       sorts_differ = w.sorts_differ;
@@ -118,7 +120,8 @@ from_role : (sorts : List Sort) (rules : List Rule) (k : ℕ) (all : List (List 
 from_role sorts rules k [] are = tt
 from_role sorts rules k (rs ∷ more) (here, later) =
     each_append (From sorts rules k) rs (flat more)
-    (subst (Each (From sorts rules k)) (sym here) (each_map (λ r. Member r rules × (home sorts r ≡ k)) (From sorts rules k) (rules_at sorts k rules) (λ r x. (x.0, omega (arith, x.1))) (at_role sorts rules k)))
+    (subst (Each (From sorts rules k)) (sym here) (each_map (λ r. Member r rules × (home sorts r ≡ k)) (From sorts rules k) (rules_at sorts k rules)
+    (λ r x. (x.0, omega (arith, x.1))) (at_role sorts rules k)))
     (each_map (From sorts rules (suc k)) (From sorts rules k) (flat more) (λ r x. (x.0, omega (arith, x.1))) (from_role sorts rules (suc k) more later))
 
 differ_from : (sorts : List Sort) (rules : List Rule) (k : ℕ) (all : List (List Rule)) → Differ (map name rules) → AreRulesFrom sorts rules k all → Differ (map name (flat all))
@@ -133,13 +136,16 @@ differ_from sorts rules k (rs ∷ more) d (here, later) =
     (each_map (λ r. Member r rules × (home sorts r ≡ k)) (λ a. Each (λ m. a.name ≢ m) (map name (flat more))) (rules_at sorts k rules)
     (λ a x. each_mapped (λ m. a.name ≢ m) name (flat more)
     (each_map (From sorts rules (suc k)) (λ b. a.name ≢ b.name) (flat more)
-    (λ b y e. (let same : a ≡ b = one_named rules d a b x.0 y.0 e in let h : home sorts a ≡ home sorts b = ap (home sorts) same in omega (arith, x.1, y.1, h))) (from_role sorts rules (suc k) more later)))
+    (λ b y e. (let same : a ≡ b = one_named rules d a b x.0 y.0 e in let h : home sorts a ≡ home sorts b = ap (home sorts) same in
+    omega (arith, x.1, y.1, h))) (from_role sorts rules (suc k) more later)))
     (at_role sorts rules k)))))
 
 -- all rules, role by role, with the declarations of the grammar
-pub good_by_role : (roles : List (List ℕ)) (cons : List Con) (sorts : List Sort) (rules : List Rule) (all : List (List Rule)) → AreRulesFrom sorts rules 0 all → Good roles cons sorts rules → Good roles cons sorts (flat all)
+pub good_by_role : (roles : List (List ℕ)) (cons : List Con) (sorts : List Sort) (rules : List Rule) (all : List (List Rule)) →
+    AreRulesFrom sorts rules 0 all → Good roles cons sorts rules → Good roles cons sorts (flat all)
 good_by_role roles cons sorts rules all are w =
-    good_among roles cons sorts rules (flat all) (each_map (From sorts rules 0) (λ r. Member r rules) (flat all) (λ r x. x.0) (from_role sorts rules 0 all are)) (differ_from sorts rules 0 all w.rules_differ are) w
+    good_among roles cons sorts rules (flat all) (each_map (From sorts rules 0) (λ r. Member r rules) (flat all) (λ r x. x.0)
+    (from_role sorts rules 0 all are)) (differ_from sorts rules 0 all w.rules_differ are) w
 
 -- parts of one grammar are of the roles of their places
 pub in_order : (g : Grammar) (role : ℕ) (ys : List RoleYes) → ArePartsOf g role ys → HaveRoles role ys

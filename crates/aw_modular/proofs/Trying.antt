@@ -32,7 +32,8 @@ both false b e f = absurd cc
 own_rules : (role : ℕ) (g : Grammar) → all_own role g ≡ true → HasOwnRules role g
 own_rules role g e r m = eqb-true (role_of g.sorts r.sort) role (all_member (λ (r : Rule). nat_eq (role_of g.sorts r.sort) role) g.rules r e m)
 
-elsewhere : (role : ℕ) (g : Grammar) (declared : List Triple) (pairs : List Pair) → lists_others role g declared pairs ≡ true → (s i j : ℕ) → DeclaredElsewhere g role (Declares declared) s i j → Holds pairs s i j
+elsewhere : (role : ℕ) (g : Grammar) (declared : List Triple) (pairs : List Pair) → lists_others role g declared pairs ≡ true → (s i j : ℕ) →
+    DeclaredElsewhere g role (Declares declared) s i j → Holds pairs s i j
 elsewhere role g declared pairs e s i j (not_own, m) =
     elim (or_second (nat_eq (role_of g.sorts s) role) (any (pair_eq (record { sort = s; i = i; j = j })) pairs)
     (all_member (λ (t : Triple). nat_eq (role_of g.sorts t.sort) role || any (pair_eq (record { sort = t.sort; i = t.i; j = t.j })) pairs) declared (record { sort = s; i = i; j = j }) e m)) [
@@ -51,7 +52,8 @@ declared_member p ts e =
     let same : t ≡ record { sort = p.sort; i = p.i; j = p.j } = λ k. record { sort = sym x k; i = sym y k; j = sym z k } in
     subst (λ u. Member u ts) same m
 
-module _ (offers : List ℕ) (declared : List Triple) (role : ℕ) (p : Part) (pairs : List Pair) (own : all_own role p.grammar ≡ true) (others : lists_others role p.grammar declared pairs ≡ true) (decided : decides pairs p.grammar.rules ≡ true) where
+module _ (offers : List ℕ) (declared : List Triple) (role : ℕ) (p : Part) (pairs : List Pair) (own : all_own role p.grammar ≡ true)
+    (others : lists_others role p.grammar declared pairs ≡ true) (decided : decides pairs p.grammar.rules ≡ true) where
   mixed_holds : (s i j : ℕ) → Mixed p.grammar role (RoleRelation p.grammar role (Declares declared)) (Declares declared) s i j → Holds pairs s i j
   mixed_holds s i j x =
       follows_least p.grammar (DeclaredElsewhere p.grammar role (Declares declared)) (Holds pairs) (decided_closed p.grammar pairs decided) (elsewhere role p.grammar declared pairs others) s i j
@@ -65,11 +67,13 @@ module _ (offers : List ℕ) (declared : List Triple) (role : ℕ) (p : Part) (p
   says_yes faces declares = record {
     own = own_rules role p.grammar own;
     faces = faces;
-    no_circle = λ r m o w. decided_none p.grammar pairs decided r m o (plus_map r (Mixed p.grammar role (RoleRelation p.grammar role (Declares declared)) (Declares declared)) (Holds pairs) mixed_holds w);
+    no_circle = λ r m o w. decided_none p.grammar pairs decided r m o
+        (plus_map r (Mixed p.grammar role (RoleRelation p.grammar role (Declares declared)) (Declares declared)) (Holds pairs) mixed_holds w);
     declares = λ s i j off x.
         let a = is_own s i j x in
         declared_member (record { sort = s; i = i; j = j }) declared
         (implies (nat_eq (role_of p.grammar.sorts s) role && is_offered s offers) (any (triple_is (record { sort = s; i = i; j = j })) declared)
-        (all_member (λ (q : Pair). not (nat_eq (role_of p.grammar.sorts q.sort) role && is_offered q.sort offers) || any (triple_is q) declared) pairs (record { sort = s; i = i; j = j }) declares (mixed_holds s i j (inl (a, x))))
+        (all_member (λ (q : Pair). not (nat_eq (role_of p.grammar.sorts q.sort) role && is_offered q.sort offers) || any (triple_is q) declared) pairs
+        (record { sort = s; i = i; j = j }) declares (mixed_holds s i j (inl (a, x))))
         (both (nat_eq (role_of p.grammar.sorts s) role) (is_offered s offers) (eq-eqb (role_of p.grammar.sorts s) role a) off));
   }

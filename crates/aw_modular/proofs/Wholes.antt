@@ -26,7 +26,8 @@ use Rattle.aw_accept.specs.Circular.{LeastFault}
 use Rattle.aw_modular.specs.Roles as R
 use Rattle.aw_modular.specs.declared.yes.RoleYes.{RoleYes}
 use Rattle.aw_modular.specs.declared.shared.Shared.{Shared}
-use Rattle.aw_modular.specs.Wholes.{shared_of, HaveRoles, AreInOrder, AllHave, AllShare, FirstOther, all_rules, Gathers, FitTogether, WouldFit, HasAll, IsWholeOf, yes_part, LieWithin, TakesAllIn, TakesIn, TellsDifference}
+use Rattle.aw_modular.specs.Wholes.{shared_of, HaveRoles, AreInOrder, AllHave, AllShare, FirstOther, all_rules, Gathers, FitTogether, WouldFit, HasAll}
+use Rattle.aw_modular.specs.Wholes.{IsWholeOf, yes_part, LieWithin, TakesAllIn, TakesIn, TellsDifference}
 use Rattle.aw_modular.proofs.Joining.{lies_within, no_circle}
 
 -- where the first of what is left has the same in common
@@ -83,7 +84,8 @@ pub whole_free : (ys : List RoleYes) (g : Grammar) → AreInOrder ys → AllShar
 whole_free [] g order share whole = never order
 whole_free (y ∷ ys) g order share whole =
     let s = shared_of y in
-    ∥∥₁_elim (all_say_yes s 0 (y ∷ ys) order (refl, share)) (free_prop (grammar_of g) (IO (grammar_of g))) (λ says. no_circle s.offers s.declared (map yes_part (y ∷ ys)) (grammar_of g) (joined s (y ∷ ys) g (refl, share) whole) says)
+    ∥∥₁_elim (all_say_yes s 0 (y ∷ ys) order (refl, share)) (free_prop (grammar_of g) (IO (grammar_of g)))
+    (λ says. no_circle s.offers s.declared (map yes_part (y ∷ ys)) (grammar_of g) (joined s (y ∷ ys) g (refl, share) whole) says)
 
 pub whole_within : (ys : List RoleYes) (g : Grammar) → AreInOrder ys → AllShare ys → IsWholeOf ys g → ∥ LieWithin ys g ∥₁
 whole_within [] g order share whole = never order
@@ -134,7 +136,8 @@ pub not_taken_in : (kept came : Shared) (y : RoleYes) (old new : List Rule) (o :
 not_taken_in kept came y old new o some taken = subst (TakesIn kept y old new) some taken
 
 -- what one part has that differs from the first, where others were passed
-pub differs_here : (parts : List RoleYes) (first : RoleYes) (ys : List RoleYes) (kept came : Shared) → parts ≡ first ∷ ys → kept ≡ shared_of first → FirstOther kept came ys → TellsDifference parts (Differs kept came)
+pub differs_here : (parts : List RoleYes) (first : RoleYes) (ys : List RoleYes) (kept came : Shared) → parts ≡ first ∷ ys → kept ≡ shared_of first →
+    FirstOther kept came ys → TellsDifference parts (Differs kept came)
 differs_here parts first ys kept came is same other = subst (λ ps. TellsDifference ps (Differs kept came)) (sym is) (same, other)
 
 -- parts in order are one at least
@@ -148,13 +151,15 @@ first_and_others [] first order is = never order
 first_and_others (y ∷ ys) first order is = ap (λ z. z ∷ ys) (sym is)
 
 -- what is gathered where the others have the same in common as the first
-pub gathered_all : (parts : List RoleYes) (first : RoleYes) (ys : List RoleYes) (kept : Shared) (old new : List Rule) (o : Option Shared) → parts ≡ first ∷ ys → kept ≡ shared_of first → old ≡ first.part.grammar.rules → o ≡ None
+pub gathered_all : (parts : List RoleYes) (first : RoleYes) (ys : List RoleYes) (kept : Shared) (old new : List Rule) (o : Option Shared) →
+    parts ≡ first ∷ ys → kept ≡ shared_of first → old ≡ first.part.grammar.rules → o ≡ None
     → TakesAllIn kept ys old new o → Gathers parts kept new
 gathered_all parts first ys kept old new o is same rules none taken =
     let all = subst (TakesAllIn kept ys old new) none taken in
     subst (λ ps. Gathers ps kept new) (sym is) (same, all.0, all.1 ∙ ap (λ rs. rs ++ all_rules ys) rules)
 
 -- what is told where one has another
-pub gathered_other : (parts : List RoleYes) (first : RoleYes) (ys : List RoleYes) (kept came : Shared) (old new : List Rule) (o : Option Shared) → parts ≡ first ∷ ys → kept ≡ shared_of first → o ≡ Some came
+pub gathered_other : (parts : List RoleYes) (first : RoleYes) (ys : List RoleYes) (kept came : Shared) (old new : List Rule) (o : Option Shared) →
+    parts ≡ first ∷ ys → kept ≡ shared_of first → o ≡ Some came
     → TakesAllIn kept ys old new o → TellsDifference parts (Differs kept came)
 gathered_other parts first ys kept came old new o is same some taken = differs_here parts first ys kept came is same (subst (TakesAllIn kept ys old new) some taken)

@@ -40,7 +40,8 @@ pub follows_same : (g : Grammar) (seed seed' : ℕ → ℕ → ℕ → Type 0) �
 follows_same g seed seed' there = follows_least g seed (Follows g seed') (follows_closed g seed') (λ s i j x. follows_held g seed' s i j (there s i j x))
 
 -- what follows from what is declared elsewhere is what is known
-pub known_follows : (g : Grammar) (role : ℕ) (declared : List Triple) (seed has : ℕ → ℕ → ℕ → Type 0) → HasOwnRules role g → ((s i j : ℕ) → seed s i j ↔ DeclaredElsewhere g role (Declares declared) s i j)
+pub known_follows : (g : Grammar) (role : ℕ) (declared : List Triple) (seed has : ℕ → ℕ → ℕ → Type 0) → HasOwnRules role g →
+    ((s i j : ℕ) → seed s i j ↔ DeclaredElsewhere g role (Declares declared) s i j)
     → ((s i j : ℕ) → has s i j ↔ Follows g seed s i j) → (s i j : ℕ) → has s i j ↔ Known g role declared s i j
 known_follows g role declared seed has own seeds made s i j = (
   (λ x. follows-mixed g role (Declares declared) own s i j (follows_same g seed (DeclaredElsewhere g role (Declares declared)) (λ s i j y. (seeds s i j).0 y) s i j ((made s i j).0 x))),
@@ -79,7 +80,8 @@ declares_or_not (t ∷ ts) s i j =
     ]
 
 -- a role without a circle and without an excess says yes
-pub says_yes : (offers : List ℕ) (declared : List Triple) (role : ℕ) (p : Part) → ∥ HasOwnRules role p.grammar ∥₁ → face_fault p.grammar offers p.uses ≡ None → HasNoCircle p.grammar (Known p.grammar role declared)
+pub says_yes : (offers : List ℕ) (declared : List Triple) (role : ℕ) (p : Part) → ∥ HasOwnRules role p.grammar ∥₁ → face_fault p.grammar offers
+    p.uses ≡ None → HasNoCircle p.grammar (Known p.grammar role declared)
     → LeastPair (IsExcess offers declared role p.grammar) None → SaysYes offers declared role p
 says_yes offers declared role p own faces free none =
     record {
@@ -113,15 +115,18 @@ own_of_part role g h is = subst (HasOwnRules role) (sym is) (λ r m. eqb-true (r
 
 -- where all rules are, those of the role are all
 pub rules_of_own : (role : ℕ) (g : GrammarValue) → HasOwnRules role (grammar_of g) → rules_at g.sorts role g.rules ≡ g.rules
-rules_of_own role g own = filter_all (λ r. is_at (sorts_of g.sorts) role (rule_of g.sorts r)) g.rules (λ r m. eq-eqb (role_of (sorts_of g.sorts) r.sort) role (own (rule_of g.sorts r) (member_map (rule_of g.sorts) r g.rules m)))
+rules_of_own role g own = filter_all (λ r. is_at (sorts_of g.sorts) role (rule_of g.sorts r)) g.rules
+    (λ r m. eq-eqb (role_of (sorts_of g.sorts) r.sort) role (own (rule_of g.sorts r) (member_map (rule_of g.sorts) r g.rules m)))
 
 -- what follows within a result
-pub known_if_ok : {E : Type 0} (g : Grammar) (role : ℕ) (declared : List Triple) (seed : Io) (r : Result Io E) → ∥ HasOwnRules role g ∥₁ → ((s i j : ℕ) → Has seed s i j ↔ DeclaredElsewhere g role (Declares declared) s i j)
+pub known_if_ok : {E : Type 0} (g : Grammar) (role : ℕ) (declared : List Triple) (seed : Io) (r : Result Io E) → ∥ HasOwnRules role g ∥₁ →
+    ((s i j : ℕ) → Has seed s i j ↔ DeclaredElsewhere g role (Declares declared) s i j)
     → IfOk r (λ io. (s i j : ℕ) → Has io s i j ↔ Follows g (Has seed) s i j) → IfOk r (λ io. (s i j : ℕ) → Has io s i j ↔ Known g role declared s i j)
 known_if_ok g role declared seed (Ok io) own seeds made = known_follows g role declared (Has seed) (Has io) (own_rules role g own) seeds made
 known_if_ok g role declared seed (Err e) own seeds made = tt
 
-pub fault_if_ok : {E : Type 0} (g : Grammar) (rel rel' : ℕ → ℕ → ℕ → Type 0) (r : Result (Option Fault) E) → ((s i j : ℕ) → rel s i j ↔ rel' s i j) → IfOk r (λ found. LeastFaultOver g rel found) → IfOk r (λ found. LeastFaultOver g rel' found)
+pub fault_if_ok : {E : Type 0} (g : Grammar) (rel rel' : ℕ → ℕ → ℕ → Type 0) (r : Result (Option Fault) E) → ((s i j : ℕ) → rel s i j ↔ rel' s i j) →
+    IfOk r (λ found. LeastFaultOver g rel found) → IfOk r (λ found. LeastFaultOver g rel' found)
 fault_if_ok g rel rel' (Ok found) same least = fault_same g rel rel' found same least
 fault_if_ok g rel rel' (Err e) same least = tt
 
@@ -138,7 +143,8 @@ excess_is_loose p declared all found alls known t (off, x, without) =
     ((known t.sort t.i t.j).1 (inl (own, x)), (λ has. without ((alls t.sort t.i t.j).0 has)), own, off)
 
 -- a copy says yes
-pub says_copy : (p copy : PartValue) (declared again : List Triple) → IsCopy p copy → again ≡ declared → SaysYes p.faces.offers declared p.role (part_of p) → SaysYes copy.faces.offers again copy.role (part_of copy)
+pub says_copy : (p copy : PartValue) (declared again : List Triple) → IsCopy p copy → again ≡ declared → SaysYes p.faces.offers declared p.role
+    (part_of p) → SaysYes copy.faces.offers again copy.role (part_of copy)
 says_copy p copy declared again is same says =
     let q : part_of copy ≡ part_of p = λ k. record { grammar = plain_grammar (is.roles k) (is.cons k) (is.sorts k) (is.rules k); uses = (is.faces k).uses } in
     subst (λ (os : List ℕ). SaysYes os again copy.role (part_of copy)) (sym (ap (λ (f : Faces). f.offers) is.faces))

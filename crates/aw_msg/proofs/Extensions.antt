@@ -97,7 +97,8 @@ same_end true false bytes h k = absurd (bad_not_short h.0 (sym h.1 ∙ k))
 same_end false true bytes h k = absurd (bad_not_short k.0 (sym k.1 ∙ h))
 same_end false false bytes h k = refl
 
-one_split : (bytes : List ℕ) (fs gs : List Frame) (rest last : List ℕ) (bad worse : Bool) → Yields bytes fs rest → HasEnded bad rest → Yields bytes gs last → HasEnded worse last → (fs ≡ gs) × (bad ≡ worse)
+one_split : (bytes : List ℕ) (fs gs : List Frame) (rest last : List ℕ) (bad worse : Bool) → Yields bytes fs rest → HasEnded bad rest →
+    Yields bytes gs last → HasEnded worse last → (fs ≡ gs) × (bad ≡ worse)
 one_split bytes [] [] rest last bad worse h p k q = (refl, same_end bad worse bytes (subst (HasEnded bad) (sym h) p) (subst (HasEnded worse) (sym k) q))
 one_split bytes [] (g ∷ gs) rest last bad worse h p k q = absurd (not_ended bad bytes (g, k.0) (subst (HasEnded bad) (sym h) p) k.1)
 one_split bytes (f ∷ fs) [] rest last bad worse h p k q = absurd (not_ended worse bytes (f, h.0) (subst (HasEnded worse) (sym k) q) h.1)

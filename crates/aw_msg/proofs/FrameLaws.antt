@@ -1,5 +1,6 @@
 -- What is read of frames is spelled so, and what is spelled so is read.
-use Rattle.std.proofs.Common.{◌≡◌, ℕ, zero, suc, ◌<◌, ◌≤◌, ◌^◌, true, false, ltb, ◌==◌, List, [], ◌∷◌, ◌++◌, length, take, drop, Option, None, Some, option_map, Result, Ok, Err, refl, sym, ap, subst, ◌∙◌, append_assoc, arith}
+use Rattle.std.proofs.Common.{◌≡◌, ℕ, zero, suc, ◌<◌, ◌≤◌, ◌^◌, true, false, ltb, ◌==◌, List, [], ◌∷◌, ◌++◌, length, take, drop, Option, None, Some}
+use Rattle.std.proofs.Common.{option_map, Result, Ok, Err, refl, sym, ap, subst, ◌∙◌, append_assoc, arith}
 use Rattle.std.proofs.lemmas.Bool.{ltb-false, le-ltb, le-leb, eqb-true}
 use Rattle.std.proofs.lemmas.List.{take_at, drop_at, take-append-drop, length-append, length-take, append-nil, nil_from_length}
 use Rattle.std.proofs.lemmas.Option.{cond_some}
@@ -88,8 +89,12 @@ frame_taken bytes f rest fits e =
       rest_bytes = subst AreBytes k.1 (AreBytes-drop n behind two.0.rest_bytes);
     } in
     let middle = Takes-then a.0.1 (to_be_bytes w32 n) behind (spelled_payload f) rest two.0 last in
-    let all = Takes-then bytes (a.0.0 ∷ []) a.0.1 (to_be_bytes w32 n ++ spelled_payload f) rest one.0 middle in
-    (subst (λ (t : List ℕ). Takes bytes t rest) (ap (λ m. m ∷ (to_be_bytes w32 n ++ spelled_payload f)) (sym p.1) ∙ ap (λ m. frame_kind f ∷ (to_be_bytes w32 m ++ spelled_payload f)) (sym count)) all, p.2, p.3)
+    let all = Takes-then bytes (a.0.0 ∷ []) a.0.1 (to_be_bytes w32 n ++ spelled_payload f) rest one.0 middle in (
+      subst (λ (t : List ℕ). Takes bytes t rest) (ap (λ m. m ∷ (to_be_bytes w32 n ++ spelled_payload f)) (sym p.1)
+          ∙ ap (λ m. frame_kind f ∷ (to_be_bytes w32 m ++ spelled_payload f)) (sym count)) all,
+      p.2,
+      p.3,
+    )
 
 kind_fits : (f : Frame) → is_from_1_to 4 (frame_kind f) ≡ true
 kind_fits (Push m) = refl

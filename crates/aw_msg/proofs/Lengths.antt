@@ -183,7 +183,8 @@ grounds_short ts h = whole (length (flat_map spelled_ground ts)) (symbols_of ts)
 choice_short : (c : Q.Choice) → ChoiceInRange c → length (spelled_choice c) ≤ 1048576
 choice_short (Q.Start sort case) h = omega arith
 choice_short (Q.Develop n rule args) h =
-    behind_tag _ _ _ (adds (spelled_node n) (to_be_bytes w16 rule ++ spelled_grounds args) long_node 262915 (node_short n h.0) (more_two (length (spelled_grounds args)) (grounds_short args h.1))) (omega arith)
+    behind_tag _ _ _ (adds (spelled_node n) (to_be_bytes w16 rule ++ spelled_grounds args) long_node 262915 (node_short n h.0)
+    (more_two (length (spelled_grounds args)) (grounds_short args h.1))) (omega arith)
   where
     more_two : (n : ℕ) → n ≤ 262913 → suc (suc n) ≤ 262915
     more_two n e = omega arith

@@ -6,7 +6,8 @@ use Rattle.aw_store.specs.declared.equation.Body.TheVariants.{Same, Con, Num, Te
 use Rattle.aw_codec.specs.Reading.{Reader, byte, number, both, seen}
 use Rattle.aw_codec.specs.Names.{is_from_1_to, node, reference, references}
 use Rattle.aw_codec.specs.Texts.{text}
-use Rattle.aw_codec.proofs.Extending.{Extends, next, next_extends, via, nothing, nothing_extends, by_tag, by_tag_extends, byte_extends, number_extends, such_that_extends, seen_extends, both_extends, counted_extends, given_extends}
+use Rattle.aw_codec.proofs.Extending.{Extends, next, next_extends, via, nothing, nothing_extends, by_tag, by_tag_extends, byte_extends, number_extends}
+use Rattle.aw_codec.proofs.Extending.{such_that_extends, seen_extends, both_extends, counted_extends, given_extends}
 use Rattle.aw_codec.proofs.ReadersExtend.{node_extends, reference_extends, references_extends, text_extends}
 use Rattle.aw_msg.specs.declared.message.MsgKind.{MsgKind}
 use Rattle.aw_msg.specs.declared.message.MsgKind.TheVariants.{Call, Ask, Tell}
@@ -25,7 +26,8 @@ body_is (suc (suc (suc zero)) ∷ bytes) = refl
 body_is (suc (suc (suc (suc b))) ∷ bytes) = refl
 
 body_extends : Extends body
-body_extends = via body_is (by_tag_extends (seen_extends Same reference_extends) (seen_extends _ (both_extends (number_extends w16) references_extends)) (seen_extends Num (number_extends w64)) (seen_extends Text text_extends))
+body_extends = via body_is (by_tag_extends (seen_extends Same reference_extends)
+    (seen_extends _ (both_extends (number_extends w16) references_extends)) (seen_extends Num (number_extends w64)) (seen_extends Text text_extends))
 
 equation_extends : Extends equation
 unfolding equation
@@ -58,7 +60,9 @@ kind_is loaded (suc (suc (suc zero)) ∷ bytes) = refl
 kind_is loaded (suc (suc (suc (suc b))) ∷ bytes) = refl
 
 kind_extends : (loaded : Bool) → Extends (kind loaded)
-kind_extends loaded = via (kind_is loaded) (by_tag_extends (seen_extends _ (both_extends node_extends (both_extends references_extends (load_extends loaded)))) (ask_extends loaded) (seen_extends _ (both_extends equation_extends (load_extends loaded))) nothing_extends)
+kind_extends loaded = via (kind_is loaded)
+    (by_tag_extends (seen_extends _ (both_extends node_extends (both_extends references_extends (load_extends loaded)))) (ask_extends loaded)
+    (seen_extends _ (both_extends equation_extends (load_extends loaded))) nothing_extends)
 
 pub message_extends : Extends message
 unfolding message

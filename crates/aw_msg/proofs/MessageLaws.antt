@@ -15,7 +15,8 @@ use Rattle.aw_codec.specs.Bytes.{AreBytes}
 use Rattle.aw_codec.specs.Reading.{byte, number, such_that, both, seen}
 use Rattle.aw_codec.specs.Names.{spelled_node, spelled_ref, spelled_refs, is_from_1_to}
 use Rattle.aw_codec.specs.Texts.{spelled_text}
-use Rattle.aw_codec.proofs.Laws.{Law, Takes, Takes-then, Takes-tag, AreBytes-rest, bind_ok, ok_is, byte_law, number16, number64, such_that_law, both_law, seen_law, seen_taken, seen_again, restated, counted_law}
+use Rattle.aw_codec.proofs.Laws.{Law, Takes, Takes-then, Takes-tag, AreBytes-rest, bind_ok, ok_is, byte_law, number16, number64, such_that_law}
+use Rattle.aw_codec.proofs.Laws.{both_law, seen_law, seen_taken, seen_again, restated, counted_law}
 use Rattle.aw_codec.proofs.NameLaws.{node_law, reference_law, references_law}
 use Rattle.aw_codec.proofs.GroundLaws.{text_law}
 use Rattle.aw_msg.specs.declared.message.MsgKind.{MsgKind}
@@ -109,7 +110,8 @@ LoadTakes loaded bytes rest es = Takes bytes (spelled_load (map equation_of es))
 none_at_least : 1 ≤ 0 → ⊥
 none_at_least h = omega arith
 
-some_taken : (bytes : List ℕ) (es : List Equation) (rest : List ℕ) → Takes bytes (spelled_equations (map equation_of es)) rest × LoadSized (map equation_of es) × SomeInRange es → LoadTakes true bytes rest es
+some_taken : (bytes : List ℕ) (es : List Equation) (rest : List ℕ) → Takes bytes (spelled_equations (map equation_of es)) rest
+    × LoadSized (map equation_of es) × SomeInRange es → LoadTakes true bytes rest es
 some_taken bytes [] rest t = absurd (none_at_least t.2.0)
 some_taken bytes (e ∷ es) rest t = (t.0, t.1, (t.2.1, refl))
 
@@ -130,7 +132,8 @@ load_again true (e ∷ es) rest sized range = equations_law.again (e ∷ es) res
     at_least : (es : List Equation) → 1 ≤ suc (length es)
     at_least es = omega arith
 
-load_law : (loaded : Bool) → Law (load loaded) (λ es. spelled_load (map equation_of es)) (λ es. LoadSized (map equation_of es)) (λ es. LoadInRange (map equation_of es) × (has_some (map equation_of es) ≡ loaded))
+load_law : (loaded : Bool) → Law (load loaded) (λ es. spelled_load (map equation_of es)) (λ es. LoadSized (map equation_of es))
+    (λ es. LoadInRange (map equation_of es) × (has_some (map equation_of es) ≡ loaded))
 load_law loaded = record { taken = load_taken loaded; again = load_again loaded }
 
 -- ---- kinds
@@ -176,7 +179,8 @@ kind_law loaded = record { taken = kind_taken loaded; again = kind_again loaded 
 -- ---- messages
 
 -- behind the version
-inner_law : (loaded : Bool) → Law (seen (λ m. record { to = m.0; kind = m.1 }) (both (number w16) (kind loaded))) (λ m. to_be_bytes w16 m.to ++ spelled_kind (plain_kind m.kind)) MessageSized (λ m. Unit {0} × IsOfKind loaded m.kind)
+inner_law : (loaded : Bool) → Law (seen (λ m. record { to = m.0; kind = m.1 }) (both (number w16) (kind loaded)))
+    (λ m. to_be_bytes w16 m.to ++ spelled_kind (plain_kind m.kind)) MessageSized (λ m. Unit {0} × IsOfKind loaded m.kind)
 inner_law loaded = seen_law (λ m. record { to = m.0; kind = m.1 }) (λ m. (m.to, m.kind)) (λ x. refl) (λ y. refl) (both_law number16 (kind_law loaded))
 
 version_law : Law (such_that is_version byte) (λ v. v ∷ []) (λ v. v < 2 ^ 8) (λ v. Unit {0} × (is_version v ≡ true))
@@ -197,10 +201,15 @@ message_taken bytes m rest fits e =
     let a = bind_ok (such_that is_version byte bytes) (λ version. seen (λ n. record { to = n.0; kind = n.1 }) (both (number w16) (kind (version.0 == 2))) version.1) (m, rest) e in
     let version = version_law.taken bytes a.0.0 a.0.1 fits a.1 in
     let t = (inner_law (a.0.0 == 2)).taken a.0.1 m rest version.0.rest_bytes a.2 in
-    let is : a.0.0 ≡ version_of (is_loaded (plain_kind m.kind)) = version_is a.0.0 version.2.1 ∙ ap version_of (sym t.2.1.1) in
-    (Takes-then bytes (version_of (is_loaded (plain_kind m.kind)) ∷ []) a.0.1 (to_be_bytes w16 m.to ++ spelled_kind (plain_kind m.kind)) rest (subst (λ v. Takes bytes (v ∷ []) a.0.1) is version.0) t.0, t.1, t.2.1.0)
+    let is : a.0.0 ≡ version_of (is_loaded (plain_kind m.kind)) = version_is a.0.0 version.2.1 ∙ ap version_of (sym t.2.1.1) in (
+      Takes-then bytes (version_of (is_loaded (plain_kind m.kind)) ∷ []) a.0.1 (to_be_bytes w16 m.to ++ spelled_kind (plain_kind m.kind)) rest
+          (subst (λ v. Takes bytes (v ∷ []) a.0.1) is version.0) t.0,
+      t.1,
+      t.2.1.0,
+    )
 
-behind_version : (loaded : Bool) (m : Message) (rest : List ℕ) → MessageSized m → IsOfKind loaded m.kind → message (version_of loaded ∷ ((to_be_bytes w16 m.to ++ spelled_kind (plain_kind m.kind)) ++ rest)) ≡ Ok (m, rest)
+behind_version : (loaded : Bool) (m : Message) (rest : List ℕ) → MessageSized m → IsOfKind loaded m.kind →
+    message (version_of loaded ∷ ((to_be_bytes w16 m.to ++ spelled_kind (plain_kind m.kind)) ++ rest)) ≡ Ok (m, rest)
 unfolding message
 behind_version false m rest sized range = (inner_law false).again m rest sized (tt, range)
 behind_version true m rest sized range = (inner_law true).again m rest sized (tt, range)

@@ -16,7 +16,11 @@ ready_same f g e = cc
 ready_is : (failed : Bool) (bytes : List ℕ) (read : Result (Frame × List ℕ) Fault) (f : Frame) (t : Stream) → Ready f ≡ (if failed then Wrong else next_in read)
     → t ≡ (if failed then record { bytes = bytes; failed = failed } else left_in (record { bytes = bytes; failed = failed }) read) → (read ≡ Ok (f, t.bytes)) × (t.failed ≡ false)
 ready_is true bytes read f t e h = absurd cc
-ready_is false bytes (Ok x) f t e h = (ap (λ (g : Frame). Ok (g, x.1)) (sym (ready_same f x.0 e)) ∙ ap (λ (rest : List ℕ). Ok (f, rest)) (sym (ap (λ (s : Stream). s.bytes) h)), ap (λ (s : Stream). s.failed) h)
+ready_is false bytes (Ok x) f t e h = (
+  ap (λ (g : Frame). Ok (g, x.1)) (sym (ready_same f x.0 e)) ∙ ap (λ (rest : List ℕ). Ok (f, rest))
+      (sym (ap (λ (s : Stream). s.bytes) h)),
+  ap (λ (s : Stream). s.failed) h,
+)
 ready_is false bytes (Err Short) f t e h = absurd cc
 ready_is false bytes (Err (Bad left)) f t e h = absurd cc
 

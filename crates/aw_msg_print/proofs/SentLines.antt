@@ -24,7 +24,8 @@ load_split w (y ∷ ys) x rest l e d =
     ∙ ap (λ t. codes " with " ++ t) (sym (joined_first w y ys))
 
 -- a text to which three texts were added
-pub added_thrice : {T E : Type 0} (r : Result T E) (old a b rest one two new whole : List ℕ) → one ≡ old ++ a → two ≡ one ++ b → a ++ (b ++ rest) ≡ whole → OnOk r (new ≡ two ++ rest) → OnOk r (new ≡ old ++ whole)
+pub added_thrice : {T E : Type 0} (r : Result T E) (old a b rest one two new whole : List ℕ) → one ≡ old ++ a → two ≡ one ++ b →
+    a ++ (b ++ rest) ≡ whole → OnOk r (new ≡ two ++ rest) → OnOk r (new ≡ old ++ whole)
 added_thrice (Ok x) old a b rest one two new whole e f g h =
     h ∙ ap (λ t. t ++ rest) (f ∙ ap (λ t. t ++ b) e ∙ append_assoc old a b) ∙ append_assoc old (a ++ b) rest ∙ ap (λ t. old ++ t) (append_assoc a b rest ∙ g)
 added_thrice (Err x) old a b rest one two new whole e f g h = h

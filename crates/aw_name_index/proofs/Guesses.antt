@@ -20,7 +20,8 @@ not_sought x y z other sought = answer (is_same x y) refl
     answer false h = refl
 
 -- the name at a place of a list whose names differ has that place
-placed : {K : Type 0} (f : K → List ℕ) (x : List ℕ) (ks : List K) (i : ℕ) (k : K) → IsDistinct (λ a b. is_same (f a) (f b)) ks → i < length ks → get_or ks i k ≡ k → f k ≡ x → Some i ≡ place_of x (map f ks)
+placed : {K : Type 0} (f : K → List ℕ) (x : List ℕ) (ks : List K) (i : ℕ) (k : K) → IsDistinct (λ a b. is_same (f a) (f b)) ks → i < length ks →
+    get_or ks i k ≡ k → f k ≡ x → Some i ≡ place_of x (map f ks)
 placed f x [] i k distinct within at same = absurd (omega (arith, within))
 placed f x (y ∷ ys) zero k distinct within at same =
     let found : is_same x (f y) ≡ true = ap (is_same x) (ap f at ∙ same) ∙ same_self x in
@@ -33,6 +34,7 @@ placed f x (y ∷ ys) (suc i) k distinct within at same =
     ∙ sym (ap (λ b. cond b (Some 0) (option_map (λ j. suc j) (place_of x (map f ys)))) passed)
 
 -- and so where the list was lent
-pub place_at : {K : Type 0} (f : K → List ℕ) (x : List ℕ) (ks lent : List K) (i : ℕ) (k : K) → lent ≡ ks → IsDistinct (λ a b. is_same (f a) (f b)) ks → i < length lent → get_or lent i k ≡ k → f k ≡ x → Some i ≡ place_of x (map f ks)
+pub place_at : {K : Type 0} (f : K → List ℕ) (x : List ℕ) (ks lent : List K) (i : ℕ) (k : K) → lent ≡ ks → IsDistinct (λ a b. is_same (f a) (f b))
+    ks → i < length lent → get_or lent i k ≡ k → f k ≡ x → Some i ≡ place_of x (map f ks)
 place_at f x ks lent i k e distinct within at same =
     placed f x ks i k distinct (subst (λ zs. i < length zs) e within) (sym (ap (λ zs. get_or zs i k) e) ∙ at) same

@@ -1,5 +1,6 @@
 -- What look-ups by position and by any say of places.
-use Rattle.std.proofs.Common.{◌≡◌, ℕ, ◌+◌, suc, Bool, true, false, cond, List, [], ◌∷◌, ◌++◌, map, Option, Some, None, is_some, option_map, ◌||◌, ◌<◌, length, subst, sym, refl, ap, ◌∙◌, arith, position}
+use Rattle.std.proofs.Common.{◌≡◌, ℕ, ◌+◌, suc, Bool, true, false, cond, List, [], ◌∷◌, ◌++◌, map, Option, Some, None, is_some, option_map, ◌||◌, ◌<◌}
+use Rattle.std.proofs.Common.{length, subst, sym, refl, ap, ◌∙◌, arith, position}
 use Rattle.std.proofs.lemmas.List.{map-append}
 use Rattle.std.specs.List.{position_from, list_any}
 use Rattle.std.proofs.lemmas.Iterator.Adapters.{position_from-zero}
@@ -33,7 +34,8 @@ any_of_none f x (k ∷ ks) h =
     rw parts.0 (any_of_none f x ks parts.1)
 
 -- a key that is inserted where its name does not stand goes last
-pub name_pushed : {K : Type 0} (f : K → List ℕ) (x : List ℕ) (k : K) (keys new : List K) (names : List (List ℕ)) → f k ≡ x → map f keys ≡ names → place_of x names ≡ None → new ≡ cond (list_any (λ y. is_same (f k) (f y)) keys) keys (keys ++ k ∷ []) → map f new ≡ names ++ x ∷ []
+pub name_pushed : {K : Type 0} (f : K → List ℕ) (x : List ℕ) (k : K) (keys new : List K) (names : List (List ℕ)) → f k ≡ x → map f keys ≡ names →
+    place_of x names ≡ None → new ≡ cond (list_any (λ y. is_same (f k) (f y)) keys) keys (keys ++ k ∷ []) → map f new ≡ names ++ x ∷ []
 name_pushed f x k keys new names same listed none inserted =
     let absent : list_any (λ y. is_same (f k) (f y)) keys ≡ false = any_of_none f (f k) keys (ap (λ ns. place_of (f k) ns) listed ∙ ap (λ z. place_of z names) same ∙ none) in
     ap (λ ks. map f ks) (inserted ∙ ap (λ b. cond b keys (keys ++ k ∷ [])) absent)
@@ -46,7 +48,8 @@ any_stands_in f x [] = refl
 any_stands_in f x (k ∷ ks) = ap (λ b. is_same x (f k) || b) (any_stands_in f x ks)
 
 -- a name stands where a key of that name does
-pub stands_by_keys : {K : Type 0} (f : K → List ℕ) (x : List ℕ) (k : K) (keys : List K) (names : List (List ℕ)) → f k ≡ x → map f keys ≡ names → list_any (λ y. is_same (f k) (f y)) keys ≡ stands x names
+pub stands_by_keys : {K : Type 0} (f : K → List ℕ) (x : List ℕ) (k : K) (keys : List K) (names : List (List ℕ)) → f k ≡ x → map f keys ≡ names →
+    list_any (λ y. is_same (f k) (f y)) keys ≡ stands x names
 stands_by_keys f x k keys names same listed =
     any_stands_in f (f k) keys ∙ ap (stands (f k)) listed ∙ ap (λ z. stands z names) same
 
@@ -55,7 +58,8 @@ mapped_case f k keys true = refl
 mapped_case f k keys false = map-append f keys (k ∷ [])
 
 -- a key that is inserted goes last where its name does not stand, and else changes nothing
-pub name_inserted : {K : Type 0} (f : K → List ℕ) (x : List ℕ) (k : K) (keys new : List K) (names : List (List ℕ)) → f k ≡ x → map f keys ≡ names → new ≡ cond (list_any (λ y. is_same (f k) (f y)) keys) keys (keys ++ k ∷ []) → map f new ≡ cond (stands x names) names (names ++ x ∷ [])
+pub name_inserted : {K : Type 0} (f : K → List ℕ) (x : List ℕ) (k : K) (keys new : List K) (names : List (List ℕ)) → f k ≡ x → map f keys ≡ names →
+    new ≡ cond (list_any (λ y. is_same (f k) (f y)) keys) keys (keys ++ k ∷ []) → map f new ≡ cond (stands x names) names (names ++ x ∷ [])
 name_inserted f x k keys new names same listed inserted =
     ap (λ ks. map f ks) inserted
     ∙ mapped_case f k keys (list_any (λ y. is_same (f k) (f y)) keys)

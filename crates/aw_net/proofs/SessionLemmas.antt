@@ -1,5 +1,6 @@
 -- Sessions in memory as they are shown.
-use Rattle.std.proofs.Common.{◌≡◌, ℕ, zero, suc, ◌+◌, ◌≤◌, ◌-◌, List, [], ◌∷◌, ◌++◌, length, take, drop, map, reverse, Bool, true, refl, ap, sym, ◌∙◌, arith, length-append, append-nil, Option, None, Some, option_to_list, slice_get, subst}
+use Rattle.std.proofs.Common.{◌≡◌, ℕ, zero, suc, ◌+◌, ◌≤◌, ◌-◌, List, [], ◌∷◌, ◌++◌, length, take, drop, map, reverse, Bool, true, refl, ap, sym, ◌∙◌}
+use Rattle.std.proofs.Common.{arith, length-append, append-nil, Option, None, Some, option_to_list, slice_get, subst}
 use Rattle.std.proofs.lemmas.List.{take-append-le, map-append, reverse-reverse, length-take-le, drop-append-le, drop-drop}
 use Rattle.std.proofs.lemmas.Option.{slice_get-map}
 use Rattle.std.proofs.Math.Seq.{take-add, take-length}
@@ -39,7 +40,8 @@ all-shown-more bytes more (p ∷ ps) w = let one = shown-more bytes more p w.0 i
 -- the open session is changed
 pub changed-last : (f : Session → Session) (bytes : List ℕ) (ps : List Passed) (p q : Passed) → f (session_of bytes p) ≡ session_of bytes q →
     with_last f (map (session_of bytes) (ps ++ p ∷ [])) ≡ map (session_of bytes) (ps ++ q ∷ [])
-changed-last f bytes ps p q e = rw (map-append (session_of bytes) ps (p ∷ []), map-append (session_of bytes) ps (q ∷ [])) (with_last-append f (map (session_of bytes) ps) (session_of bytes p) ∙ ap (λ (s : Session). map (session_of bytes) ps ++ s ∷ []) e)
+changed-last f bytes ps p q e = rw (map-append (session_of bytes) ps (p ∷ []), map-append (session_of bytes) ps (q ∷ []))
+    (with_last-append f (map (session_of bytes) ps) (session_of bytes p) ∙ ap (λ (s : Session). map (session_of bytes) ps ++ s ∷ []) e)
 
 -- and more was written in it
 pub written-last : (f : Session → Session) (bytes more : List ℕ) (ps : List Passed) (p q : Passed) → AreWithin bytes ps → f (session_of bytes p) ≡ session_of (bytes ++ more) q →
@@ -96,7 +98,8 @@ read-session bytes p n = let both = take-add p.at n p.bytes in let rest = drop-d
 pub left-last : (bytes : List ℕ) (ended : List Passed) (p : Passed) → last_left (sessions_of bytes ended (Some p)) ≡ drop p.at p.bytes
 left-last bytes ended p = ap last_left (map-append (session_of bytes) ended (p ∷ [])) ∙ last_left-append (map (session_of bytes) ended) (session_of bytes p)
 
-pub left-open : (coming : List (List ℕ)) (ended : List Passed) (cur : Option Passed) (p : Passed) (bytes : List ℕ) (room most : ℕ) → cur ≡ Some p → left_in (shown coming cur ended bytes room most) ≡ drop p.at p.bytes
+pub left-open : (coming : List (List ℕ)) (ended : List Passed) (cur : Option Passed) (p : Passed) (bytes : List ℕ) (room most : ℕ) → cur ≡ Some p →
+    left_in (shown coming cur ended bytes room most) ≡ drop p.at p.bytes
 left-open coming ended None p bytes room most e = absurd (cc e)
 left-open coming ended (Some r) p bytes room most e = let same : r ≡ p = cc e in left-last bytes ended r ∙ ap (λ (x : Passed). drop x.at x.bytes) same
 
@@ -108,7 +111,8 @@ shows-some coming ended p bytes room most n =
     let changed = changed-last (after_read (take n (drop p.at p.bytes)) (drop n (drop p.at p.bytes))) bytes ended p (record p { at = p.at + n }) (read-session bytes p n) in cc
 
 -- some of it was read, or nothing
-shows-given : (coming : List (List ℕ)) (ended : List Passed) (p q : Passed) (bytes : List ℕ) (room most : ℕ) (answer : Got) → FitsBuffer answer (drop p.at p.bytes) → q ≡ record p { at = p.at + length (given answer (drop p.at p.bytes)) } →
+shows-given : (coming : List (List ℕ)) (ended : List Passed) (p q : Passed) (bytes : List ℕ) (room most : ℕ) (answer : Got) →
+    FitsBuffer answer (drop p.at p.bytes) → q ≡ record p { at = p.at + length (given answer (drop p.at p.bytes)) } →
     shown coming (Some q) ended bytes room most ≡ with_read (given answer (drop p.at p.bytes)) (left_after answer (drop p.at p.bytes)) (shown coming (Some p) ended bytes room most)
 shows-given coming ended p q bytes room most (Read n) f is =
     let count : length (take n (drop p.at p.bytes)) ≡ n = length-take-le n (drop p.at p.bytes) f.1 in
@@ -125,8 +129,10 @@ shows-read coming ended None p q bytes room most answer e f is = absurd (cc e)
 shows-read coming ended (Some r) p q bytes room most answer e f is =
     let same : r ≡ p = cc e in
     subst (λ (c : Passed). shown coming (Some q) ended bytes room most
-    ≡ with_read (given answer (left_in (shown coming (Some c) ended bytes room most))) (left_after answer (left_in (shown coming (Some c) ended bytes room most))) (shown coming (Some c) ended bytes room most)) (sym same)
-    (subst (λ (left : List ℕ). shown coming (Some q) ended bytes room most ≡ with_read (given answer left) (left_after answer left) (shown coming (Some p) ended bytes room most)) (sym (left-last bytes ended p))
+    ≡ with_read (given answer (left_in (shown coming (Some c) ended bytes room most)))
+    (left_after answer (left_in (shown coming (Some c) ended bytes room most))) (shown coming (Some c) ended bytes room most)) (sym same)
+    (subst (λ (left : List ℕ). shown coming (Some q) ended bytes room most ≡ with_read (given answer left) (left_after answer left)
+    (shown coming (Some p) ended bytes room most)) (sym (left-last bytes ended p))
     (shows-given coming ended p q bytes room most answer f is))
 
 -- the session after more was written

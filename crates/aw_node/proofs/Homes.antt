@@ -16,7 +16,8 @@ start-of None x e h = absurd (cc e)
 start-of (Some y) x e h = let same : y ≡ x = cc e in cc
 
 -- where the sort is a start sort of a list that is seen in another way
-pub home-seen : {A : Type 0} (view : A → Sort) (as_ : List A) (g : Grammar) (s k : ℕ) (a : A) → g.sorts ≡ map view as_ → Some a ≡ slice_get as_ s → is_start (slice_get g.sorts s) ≡ true → home g (root s k) ≡ (view a).role
+pub home-seen : {A : Type 0} (view : A → Sort) (as_ : List A) (g : Grammar) (s k : ℕ) (a : A) → g.sorts ≡ map view as_ → Some a ≡ slice_get as_ s →
+    is_start (slice_get g.sorts s) ≡ true → home g (root s k) ≡ (view a).role
 home-seen view as_ g s k a sorts found h =
     let e : slice_get g.sorts s ≡ Some (view a) = ap (λ (xs : List Sort). slice_get xs s) sorts ∙ slice_get-map view as_ s ∙ ap (option_map view) (sym found) in
     home-start g s k (view a) e (start-of (slice_get g.sorts s) (view a) e h)

@@ -35,9 +35,11 @@ module _
         ((handle r s f).site, (h.0, refl), (h.1, both.1 ∙ k.1))
 
     -- sessions
-    pub node-serves : (W : Type 0) (content : W → Option Content) (faults failed_openings : W → ℕ) (role : ℕ) (n m : N) (s : Site) (u v : W) (log : List SessionLog) → IsServing A content faults failed_openings role n m u v log →
+    pub node-serves : (W : Type 0) (content : W → Option Content) (faults failed_openings : W → ℕ) (role : ℕ) (n m : N) (s : Site) (u v : W)
+        (log : List SessionLog) → IsServing A content faults failed_openings role n m u v log →
         shows n s → rules n ≡ r → Serves content faults failed_openings r role s u v log
-    node-serves W content faults failed_openings role n m s u v log h k e = serving-as N Site A (answers r) (ShowsBy shows rules r) node-sim W content faults failed_openings role n m s u v log h (k, e)
+    node-serves W content faults failed_openings role n m s u v log h k e = serving-as N Site A (answers r) (ShowsBy shows rules r) node-sim W content
+        faults failed_openings role n m s u v log h (k, e)
 
     -- before none could be opened
     pub node-unopened : (W : Type 0) (content : W → Option Content) (failed_openings : W → ℕ) (role : ℕ) (n m : N) (s : Site) (u v : W) → IsUnopened A content failed_openings role n m u v →
@@ -45,7 +47,8 @@ module _
     node-unopened W content failed_openings role n m s u v h k e = unopened-as N Site A (answers r) (ShowsBy shows rules r) node-sim W content failed_openings role n m s u v h (k, e)
 
     -- before memory ran out
-    pub node-cut-off : {F : Type 0} (breaks : N → Frame → F → N → Type 0) (W : Type 0) (content : W → Option Content) (failed_openings : W → ℕ) (role : ℕ) (n m : N) (s : Site) (u v : W) (fault : F) → IsCutOff A breaks content role n m u v fault →
+    pub node-cut-off : {F : Type 0} (breaks : N → Frame → F → N → Type 0) (W : Type 0) (content : W → Option Content) (failed_openings : W → ℕ)
+        (role : ℕ) (n m : N) (s : Site) (u v : W) (fault : F) → IsCutOff A breaks content role n m u v fault →
         shows n s → rules n ≡ r → Stops content failed_openings r role s u v NoMemory
     node-cut-off {F} breaks W content failed_openings role n m s u v fault h k e =
         cut-off-as N Site A (answers r) (ShowsBy shows rules r) node-sim breaks W content role n m s u v fault (Unit {0}) tt h (k, e)

@@ -18,7 +18,8 @@ err-anyhow (Ok x) = tt
 err-anyhow (Err e) = tt
 
 -- the bytes of a reply that is as each site replies
-pub bytes-of : {E T U : Type 0} (r : Rules) (f : F.Frame) (old new : Site → Type 0) (response : R.Response) (result : Result (List ℕ) E) → IfOk result (λ text. text ≡ spelled_reply r.words response) → HandlesAs r f old new response → T → U →
+pub bytes-of : {E T U : Type 0} (r : Rules) (f : F.Frame) (old new : Site → Type 0) (response : R.Response) (result : Result (List ℕ) E) →
+    IfOk result (λ text. text ≡ spelled_reply r.words response) → HandlesAs r f old new response → T → U →
     IfOk result (λ text. AnswersAs r f old new text × T × U)
 bytes-of r f old new response (Ok text) e h t u = ((λ s shown. let one = h s shown in (e ∙ ap (spelled_reply r.words) one.0, one.1)), t, u)
 bytes-of r f old new response (Err fault) e h t u = tt

@@ -26,7 +26,8 @@ in_turn r s t (f ∷ fs) (x ∷ xs) (m, (here, site), later) =
 -- ---- all nodes
 
 -- a choice that gets an answer fits, and is answered as by a site
-answered_cases : (b : Bool) (s : Site) (h : N.Handled) (x : Answer Ref) → (cond b h (record { site = s; response = N.NotValid })).response ≡ N.Answers x → cond b h (record { site = s; response = N.NotValid }) ≡ h
+answered_cases : (b : Bool) (s : Site) (h : N.Handled) (x : Answer Ref) → (cond b h (record { site = s; response = N.NotValid })).response ≡ N.Answers
+    x → cond b h (record { site = s; response = N.NotValid }) ≡ h
 answered_cases true s h x e = refl
 answered_cases false s h x e = absurd cc
 

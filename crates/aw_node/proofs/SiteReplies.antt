@@ -36,11 +36,13 @@ received_site s (P.New x) = refl
 -- ---- places
 
 -- what stands at a place of a list
-pub at_some : {A B : Type 0} (f : A → B) (say : B → N.Response) (n : ℕ) (xs : List A) (place : ℕ) (x : A) → slice_get xs place ≡ Some x → told (say (f x)) ≡ told (N.at_place say n (slice_get (map f xs) place))
+pub at_some : {A B : Type 0} (f : A → B) (say : B → N.Response) (n : ℕ) (xs : List A) (place : ℕ) (x : A) → slice_get xs place ≡ Some x →
+    told (say (f x)) ≡ told (N.at_place say n (slice_get (map f xs) place))
 at_some f say n xs place x e = ap (λ o. told (N.at_place say n o)) (sym (slice_get-map f xs place ∙ ap (option_map f) e))
 
 -- and how many there are
-pub at_none : {A B : Type 0} (f : A → B) (say : B → N.Response) (xs : List A) (place count : ℕ) → count ≡ length xs → length xs ≤ place → R.Ended count ≡ told (N.at_place say (length (map f xs)) (slice_get (map f xs) place))
+pub at_none : {A B : Type 0} (f : A → B) (say : B → N.Response) (xs : List A) (place count : ℕ) → count ≡ length xs → length xs ≤ place →
+    R.Ended count ≡ told (N.at_place say (length (map f xs)) (slice_get (map f xs) place))
 at_none f say xs place count c l =
     let none = slice_get_past (map f xs) place (subst (λ n. n ≤ place) (sym (length-map xs f)) l) in
     ap R.Ended (c ∙ sym (length-map xs f)) ∙ ap (λ o. told (N.at_place say (length (map f xs)) o)) (sym none)

@@ -1,5 +1,6 @@
 -- Finding held nodes, and the place of a new one, in the order of nodes.
-use Rattle.std.proofs.Common.{◌≡◌, ℕ, zero, suc, ◌<◌, ◌≤◌, List, [], ◌∷◌, ◌++◌, ◌+◌, length, map, take, drop, get_or, Option, Some, None, slice_get, Bool, true, false, cond, ap, subst, sym, ◌∙◌, refl, arith}
+use Rattle.std.proofs.Common.{◌≡◌, ℕ, zero, suc, ◌<◌, ◌≤◌, List, [], ◌∷◌, ◌++◌, ◌+◌, length, map, take, drop, get_or, Option, Some, None, slice_get}
+use Rattle.std.proofs.Common.{Bool, true, false, cond, ap, subst, sym, ◌∙◌, refl, arith}
 use Rattle.std.specs.Prelude.{not, option_map}
 use Rattle.std.specs.List.{AllWithin, insert}
 use Rattle.std.specs.List.Sorted.{IsPartitionedBy}

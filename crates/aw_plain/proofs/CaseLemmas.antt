@@ -13,7 +13,8 @@ use Rattle.aw_term.proofs.RowParts.{rounds_node}
 use Rattle.aw_accept.specs.Acyclic.{Stands}
 use Rattle.aw_accept.proofs.Binding.{In-bind}
 use Rattle.aw_accept.proofs.Sources.{Source_at, env_enters, entered}
-use Rattle.aw_accept.proofs.ConfigLemmas.{Member-insert_row, Member-insert_rows, child_row, Member-child_rows, Member-rounds, rounds-inherited-list, rounds-results-list, Chain, end, link, In-rounds, In-put, get-filled, done_row-cases}
+use Rattle.aw_accept.proofs.ConfigLemmas.{Member-insert_row, Member-insert_rows, child_row, Member-child_rows, Member-rounds, rounds-inherited-list}
+use Rattle.aw_accept.proofs.ConfigLemmas.{rounds-results-list, Chain, end, link, In-rounds, In-put, get-filled, done_row-cases}
 use Rattle.aw_accept.proofs.Developing.{Item-at}
 use Rattle.aw_accept.proofs.UndividedRuns.{decode_on}
 use Rattle.aw_plain_rows.specs.Rounds.{row_fed}

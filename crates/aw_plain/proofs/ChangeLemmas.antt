@@ -34,14 +34,16 @@ plain_at [] i q e = refl
 plain_at (x ∷ xs) zero q e = ap plain_row e
 plain_at (x ∷ xs) (suc i) q e = plain_at xs i q e
 
-pub change_some : (f : Q.Row → Q.Row) (rows : List Row) (xs : List Change) (x : Change) (q : Row) → x.at < length rows → q ≡ get_or rows x.at q → plain_row x.row ≡ f (plain_row q) → IsChangedTo f rows xs x.at → IsChangedTo f rows (xs ++ x ∷ []) (x.at + 1)
+pub change_some : (f : Q.Row → Q.Row) (rows : List Row) (xs : List Change) (x : Change) (q : Row) → x.at < length rows → q ≡ get_or rows x.at q →
+    plain_row x.row ≡ f (plain_row q) → IsChangedTo f rows xs x.at → IsChangedTo f rows (xs ++ x ∷ []) (x.at + 1)
 change_some f rows xs x q l g e w =
     ap config_of (changed_more rows xs x) ∙ map-set plain_row (changed rows xs) x.at x.row
     ∙ ap (λ c. set c x.at (plain_row x.row)) w
     ∙ ap (set (map f (take x.at (config_of rows)) ++ drop x.at (config_of rows)) x.at) e
     ∙ one_more f (config_of rows) x.at (x.at + 1) (plain_row q) (omega arith) (omega (arith, l, length-map rows plain_row)) (plain_at rows x.at q g)
 
-pub change_none : (f : Q.Row → Q.Row) (rows : List Row) (xs : List Change) (i : ℕ) (q : Row) → i < length rows → q ≡ get_or rows i q → plain_row q ≡ f (plain_row q) → IsChangedTo f rows xs i → IsChangedTo f rows xs (i + 1)
+pub change_none : (f : Q.Row → Q.Row) (rows : List Row) (xs : List Change) (i : ℕ) (q : Row) → i < length rows → q ≡ get_or rows i q →
+    plain_row q ≡ f (plain_row q) → IsChangedTo f rows xs i → IsChangedTo f rows xs (i + 1)
 change_none f rows xs i q l g e w =
     w ∙ same_more f (config_of rows) i (i + 1) (plain_row q) (omega arith) (omega (arith, l, length-map rows plain_row)) (plain_at rows i q g) e
 
@@ -69,10 +71,12 @@ module _ (f : Q.Row → Q.Row) (keeps : (q : Q.Row) → (f q).node ≡ q.node) w
 
 -- developing row by row
 pub developed : (n : Node) (r : ℕ) (rule : Rule) (bound : List Value) (args : List Ground) (c : Config) (e results : List Value) (kids fed next : Config) →
-    e ≡ env n r rule bound args → results ≡ map (fill e) rule.results → kids ≡ child_rows n r e 1 rule.children → fed ≡ map (row_fed n results) kids → next ≡ map (row_after n (Done r args) results) c →
+    e ≡ env n r rule bound args → results ≡ map (fill e) rule.results → kids ≡ child_rows n r e 1 rule.children → fed ≡ map (row_fed n results) kids →
+    next ≡ map (row_after n (Done r args) results) c →
     insert_rows fed next ≡ develop n r rule bound args c
 developed n r rule bound args c e results kids fed next ee er ek ef en =
-    ap (λ ks. insert_rows ks next) (ef ∙ ap (map (row_fed n results)) ek) ∙ ap (insert_rows (map (row_fed n results) (child_rows n r e 1 rule.children))) (en ∙ sym (map-map (row_fed n results) (done_row n (Done r args)) c))
+    ap (λ ks. insert_rows ks next) (ef ∙ ap (map (row_fed n results)) ek)
+    ∙ ap (insert_rows (map (row_fed n results) (child_rows n r e 1 rule.children))) (en ∙ sym (map-map (row_fed n results) (done_row n (Done r args)) c))
     ∙ sym (map_inserts (row_fed n results) (rounds_node (length results) (put n results)) (child_rows n r e 1 rule.children) (map (done_row n (Done r args)) c))
     ∙ sym (rounds_map (length results) (row_put (put n results)) (insert_rows (child_rows n r e 1 rule.children) (map (done_row n (Done r args)) c)))
     ∙ ap (λ m. rounds m (map (row_put (put n results))) (insert_rows (child_rows n r e 1 rule.children) (map (done_row n (Done r args)) c))) (ap length er ∙ length-map rule.results (fill e))

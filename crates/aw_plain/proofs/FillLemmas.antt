@@ -16,14 +16,16 @@ use Rattle.aw_plain_rows.specs.TreeView.{value_of, values_of}
 use Rattle.aw_plain_rows.proofs.JobLemmas.{binds_join}
 
 -- a constructor over filled parts
-pub fill_con : (env : List Value) (e : expr.Expr) (c : ℕ) (parts qs : List expr.Expr) (us : List tree.Tree) → e ≡ expr.Con c parts → qs ≡ parts → values_of us ≡ map (fill env) (map term_of qs) → Made (P.Con c) (join (values_of us)) ≡ fill env (term_of e)
+pub fill_con : (env : List Value) (e : expr.Expr) (c : ℕ) (parts qs : List expr.Expr) (us : List tree.Tree) → e ≡ expr.Con c parts → qs ≡ parts →
+    values_of us ≡ map (fill env) (map term_of qs) → Made (P.Con c) (join (values_of us)) ≡ fill env (term_of e)
 fill_con env e c parts qs us ie iq iv =
     ap (λ vs. Made (P.Con c) (join vs)) iv
     ∙ sym (ap (λ e. fill env (term_of e)) ie ∙ ap (fill env) (term_con c parts) ∙ ap (Made (P.Con c)) (binds_join (get nothing env) (map term_of parts))
     ∙ ap (λ ps. Made (P.Con c) (join (map (fill env) (map term_of ps)))) (sym iq))
 
 -- a constructor over lifted parts
-pub lift_con : (g : grounds.Ground) (c : ℕ) (parts qs : List grounds.Ground) (us : List tree.Tree) → g ≡ grounds.Con c parts → qs ≡ parts → values_of us ≡ map lift (map ground_of qs) → Made (P.Con c) (join (values_of us)) ≡ lift (ground_of g)
+pub lift_con : (g : grounds.Ground) (c : ℕ) (parts qs : List grounds.Ground) (us : List tree.Tree) → g ≡ grounds.Con c parts → qs ≡ parts →
+    values_of us ≡ map lift (map ground_of qs) → Made (P.Con c) (join (values_of us)) ≡ lift (ground_of g)
 lift_con g c parts qs us ie iq iv =
     ap (λ vs. Made (P.Con c) (join vs)) iv
     ∙ sym (ap (λ g. lift (ground_of g)) ie ∙ ap lift (ground_con c parts) ∙ ap (Made (P.Con c)) (binds_join (λ x. elim x [ ]) (map ground_of parts))

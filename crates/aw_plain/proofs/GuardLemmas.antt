@@ -12,7 +12,8 @@ use Rattle.aw_plain.proofs.MatchLemmas.{M}
 abbrev pub guard_from : ℕ → ℕ → List Pattern → List Tree → M
 guard_from n i ps ts = match_all n (map pattern_of (drop i ps)) (values_of (drop i ts))
 
-guard_more : (n i : ℕ) (ps : List Pattern) (ts : List Tree) (p : Pattern) (t : Tree) → i < length ps → i < length ts → p ≡ get_or ps i p → t ≡ get_or ts i t → guard_from n i ps ts ≡ and_then (under n (match (pattern_of p) (value_of t))) (guard_from (suc n) (i + 1) ps ts)
+guard_more : (n i : ℕ) (ps : List Pattern) (ts : List Tree) (p : Pattern) (t : Tree) → i < length ps → i < length ts → p ≡ get_or ps i p →
+    t ≡ get_or ts i t → guard_from n i ps ts ≡ and_then (under n (match (pattern_of p) (value_of t))) (guard_from (suc n) (i + 1) ps ts)
 guard_more n i ps ts p t lp lt ep et =
     at_drop_more (λ qs. match_all n (map pattern_of qs) (values_of (drop i ts))) ps i p lp
     ∙ at_drop_more (λ us. match_all n (map pattern_of (get_or ps i p ∷ drop (i + 1) ps)) (values_of us)) ts i t lt
@@ -20,7 +21,9 @@ guard_more n i ps ts p t lp lt ep et =
     ∙ ap (λ u. and_then (under n (match (pattern_of p) (value_of u))) (guard_from (suc n) (i + 1) ps ts)) (sym et)
 
 -- one more pattern has given this
-pub guard_step : (n i : ℕ) (ps : List Pattern) (ts : List Tree) (p : Pattern) (t : Tree) (xs : List Value) (m whole : M) → i < length ps → i < length ts → p ≡ get_or ps i p → t ≡ get_or ts i t → m ≡ match (pattern_of p) (value_of t) → and_then (Yes xs) (guard_from n i ps ts) ≡ whole → and_then (Yes xs) (and_then (under n m) (guard_from (suc n) (i + 1) ps ts)) ≡ whole
+pub guard_step : (n i : ℕ) (ps : List Pattern) (ts : List Tree) (p : Pattern) (t : Tree) (xs : List Value) (m whole : M) → i < length ps →
+    i < length ts → p ≡ get_or ps i p → t ≡ get_or ts i t → m ≡ match (pattern_of p) (value_of t) → and_then (Yes xs) (guard_from n i ps ts) ≡ whole →
+    and_then (Yes xs) (and_then (under n m) (guard_from (suc n) (i + 1) ps ts)) ≡ whole
 guard_step n i ps ts p t xs m whole lp lt ep et em w =
     ap (λ z. and_then (Yes xs) (and_then (under n z) (guard_from (suc n) (i + 1) ps ts))) em
     ∙ ap (and_then (Yes xs)) (sym (guard_more n i ps ts p t lp lt ep et)) ∙ w

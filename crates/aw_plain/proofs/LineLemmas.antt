@@ -69,7 +69,8 @@ row_line w q name old p1 p2 p3 p4 p5 p6 p7 p8 inherited results en ei er e1 e2 e
     e8 ∙ ap (λ u. u ++ p7) en ∙ ap (λ u. node ++ u) f7 ∙ sym (append_assoc node s7 old)
 
 -- the rows from one on
-pub lines_more : (w : Words) (qs : List rows.Row) (i : ℕ) (q : rows.Row) → i < length qs → q ≡ get_or qs i q → artifact_text w (config_of (drop i qs)) ≡ row_text w (plain_row q) ++ artifact_text w (config_of (drop (i + 1) qs))
+pub lines_more : (w : Words) (qs : List rows.Row) (i : ℕ) (q : rows.Row) → i < length qs → q ≡ get_or qs i q →
+    artifact_text w (config_of (drop i qs)) ≡ row_text w (plain_row q) ++ artifact_text w (config_of (drop (i + 1) qs))
 lines_more w qs i q l e =
     at_drop_more (λ rs. artifact_text w (config_of rs)) qs i q l ∙ ap (λ r. row_text w (plain_row r) ++ artifact_text w (config_of (drop (i + 1) qs))) (sym e)
 

@@ -37,17 +37,21 @@ con_case c d ps us b l e =
     ∙ ap (λ n. cond (nat_eq (length ps) n) (match_parts 1 (join (map pattern_of ps)) (join us)) (Differs [])) (count_join us)
     ∙ ap (λ x. cond x (match_parts 1 (join (map pattern_of ps)) (join us)) (Differs [])) l
 
-pub parts_of : (d : ℕ) (w : Bool) (ts : Rc (Vec Tree Global) Global) (t : Tree) (xs us : List Tree) → t ≡ tree.Con d w ts → xs ≡ ts.value.items → values_of us ≡ map (value_under w) xs → value_of t ≡ Made (P.Con d) (join (values_of us))
+pub parts_of : (d : ℕ) (w : Bool) (ts : Rc (Vec Tree Global) Global) (t : Tree) (xs us : List Tree) → t ≡ tree.Con d w ts → xs ≡ ts.value.items →
+    values_of us ≡ map (value_under w) xs → value_of t ≡ Made (P.Con d) (join (values_of us))
 parts_of d w ts t xs us e i v = value_parts t d w ts xs e i ∙ ap (λ vs. Made (P.Con d) (join vs)) (sym v)
 
 -- the same constructor with as many parts
-pub con_match : (c d : ℕ) (ps : List Pattern) (us : List Tree) (p : Pattern) (t : Tree) → p ≡ pattern.Con c ps → value_of t ≡ Made (P.Con d) (join (values_of us)) → c ≡ d → length ps ≡ length us → match (pattern_of p) (value_of t) ≡ match_parts 1 (join (map pattern_of ps)) (join (map value_of us))
+pub con_match : (c d : ℕ) (ps : List Pattern) (us : List Tree) (p : Pattern) (t : Tree) → p ≡ pattern.Con c ps → value_of t ≡ Made (P.Con d)
+    (join (values_of us)) → c ≡ d → length ps ≡ length us → match (pattern_of p) (value_of t) ≡ match_parts 1 (join (map pattern_of ps))
+    (join (map value_of us))
 con_match c d ps us p t ep et e l =
     ap (λ q. match (pattern_of q) (value_of t)) ep ∙ ap (match (pattern_of (pattern.Con c ps))) et
     ∙ con_case c d ps (values_of us) true (eq-eqb _ _ (l ∙ sym (length-map us value_of))) e
 
 -- the same constructor with another number of parts
-pub con_long : (c d : ℕ) (ps : List Pattern) (us : List Tree) (p : Pattern) (t : Tree) → p ≡ pattern.Con c ps → value_of t ≡ Made (P.Con d) (join (values_of us)) → c ≡ d → (length ps ≡ length us → ⊥) → match (pattern_of p) (value_of t) ≡ Differs []
+pub con_long : (c d : ℕ) (ps : List Pattern) (us : List Tree) (p : Pattern) (t : Tree) → p ≡ pattern.Con c ps → value_of t ≡ Made (P.Con d)
+    (join (values_of us)) → c ≡ d → (length ps ≡ length us → ⊥) → match (pattern_of p) (value_of t) ≡ Differs []
 con_long c d ps us p t ep et e l =
     ap (λ q. match (pattern_of q) (value_of t)) ep ∙ ap (match (pattern_of (pattern.Con c ps))) et
     ∙ con_case c d ps (values_of us) false (ne_eqb _ _ (λ h. l (h ∙ length-map us value_of))) e
@@ -77,7 +81,8 @@ behind_parts q n (Circle r) b = refl
 abbrev pub from : ℕ → ℕ → List Pattern → List Tree → M
 from n i ps ts = match_parts n (join (map pattern_of (drop i ps))) (join (map value_of (drop i ts)))
 
-from_more : (n i : ℕ) (ps : List Pattern) (ts : List Tree) (p : Pattern) (t : Tree) → i < length ps → i < length ts → p ≡ get_or ps i p → t ≡ get_or ts i t → from n i ps ts ≡ and_then (under n (match (pattern_of p) (value_of t))) (from (suc n) (i + 1) ps ts)
+from_more : (n i : ℕ) (ps : List Pattern) (ts : List Tree) (p : Pattern) (t : Tree) → i < length ps → i < length ts → p ≡ get_or ps i p →
+    t ≡ get_or ts i t → from n i ps ts ≡ and_then (under n (match (pattern_of p) (value_of t))) (from (suc n) (i + 1) ps ts)
 from_more n i ps ts p t lp lt ep et =
     at_drop_more (λ qs. match_parts n (join (map pattern_of qs)) (join (map value_of (drop i ts)))) ps i p lp
     ∙ at_drop_more (λ us. match_parts n (join (map pattern_of (get_or ps i p ∷ drop (i + 1) ps))) (join (map value_of us))) ts i t lt
@@ -85,7 +90,9 @@ from_more n i ps ts p t lp lt ep et =
     ∙ ap (λ u. and_then (under n (match (pattern_of p) (value_of u))) (from (suc n) (i + 1) ps ts)) (sym et)
 
 -- one more part has given this
-pub one_more : (q : List ℕ) (n i : ℕ) (ps : List Pattern) (ts : List Tree) (p : Pattern) (t : Tree) (xs : List Value) (m whole : M) → i < length ps → i < length ts → p ≡ get_or ps i p → t ≡ get_or ts i t → m ≡ behind (q ++ n ∷ []) (match (pattern_of p) (value_of t)) → and_then (Yes xs) (behind q (from n i ps ts)) ≡ whole → and_then (Yes xs) (and_then m (behind q (from (suc n) (i + 1) ps ts))) ≡ whole
+pub one_more : (q : List ℕ) (n i : ℕ) (ps : List Pattern) (ts : List Tree) (p : Pattern) (t : Tree) (xs : List Value) (m whole : M) → i < length ps →
+    i < length ts → p ≡ get_or ps i p → t ≡ get_or ts i t → m ≡ behind (q ++ n ∷ []) (match (pattern_of p) (value_of t)) →
+    and_then (Yes xs) (behind q (from n i ps ts)) ≡ whole → and_then (Yes xs) (and_then m (behind q (from (suc n) (i + 1) ps ts))) ≡ whole
 one_more q n i ps ts p t xs m whole lp lt ep et em w =
     ap (λ z. and_then (Yes xs) (and_then z (behind q (from (suc n) (i + 1) ps ts)))) em
     ∙ ap (and_then (Yes xs)) (sym (ap (behind q) (from_more n i ps ts p t lp lt ep et) ∙ behind_parts q n _ _)) ∙ w

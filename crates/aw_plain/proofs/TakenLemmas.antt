@@ -164,6 +164,7 @@ pub sorts_none : (g : Grammar) (rs : List rows.Row) → rs ≡ [] → HaveTheirS
 sorts_none g rs e = subst (λ xs. HaveTheirSorts g (config_of xs)) (sym e) (λ q m. never m)
 
 -- what holds before a call and after the choice holds after the call, which fails without effect
-pub kept : {A E : Type 0} (P : Config → Type 0) (r : Result A E) (old new : List rows.Row) (next : Config) → IfOk r (λ a. config_of new ≡ next) → OnErr r (new ≡ old) → P (config_of old) → P next → P (config_of new)
+pub kept : {A E : Type 0} (P : Config → Type 0) (r : Result A E) (old new : List rows.Row) (next : Config) → IfOk r (λ a. config_of new ≡ next) →
+    OnErr r (new ≡ old) → P (config_of old) → P next → P (config_of new)
 kept P (Ok a) old new next e n before after = subst P (sym e) after
 kept P (Err x) old new next e n before after = subst (λ rs. P (config_of rs)) (sym n) before

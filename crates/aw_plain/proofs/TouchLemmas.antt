@@ -26,16 +26,19 @@ use Rattle.aw_plain.proofs.CaseLemmas.{other_case, other_row}
 
 -- the rows of cases before a node's stand in front
 pub case_starts : (rows : List Row) (n : Node) → IsOrdered (config_of rows) → IsPartitionedBy (λ r. case_lt r.node n) rows
-case_starts rows n up i j d le l h = before_cases case_lt case_order n (get_or rows i d).node (get_or rows j d).node _ refl (case_not_before (get_or rows j d).node (get_or rows i d).node (shown_far at_row plain_row rows up i j d le l)) h
+case_starts rows n up i j d le l h = before_cases case_lt case_order n (get_or rows i d).node (get_or rows j d).node _ refl
+    (case_not_before (get_or rows j d).node (get_or rows i d).node (shown_far at_row plain_row rows up i j d le l)) h
 
 -- the rows of cases that a node's is not before stand in front
 pub case_ends : (rows : List Row) (n : Node) → IsOrdered (config_of rows) → IsPartitionedBy (λ r. not (case_lt n r.node)) rows
 case_ends rows n up i j d le l h =
-    ap not (case_order.chain n (get_or rows j d).node (get_or rows i d).node (not-true _ h) (case_not_before (get_or rows j d).node (get_or rows i d).node (shown_far at_row plain_row rows up i j d le l)))
+    ap not (case_order.chain n (get_or rows j d).node (get_or rows i d).node (not-true _ h)
+    (case_not_before (get_or rows j d).node (get_or rows i d).node (shown_far at_row plain_row rows up i j d le l)))
 
 module _ (lt : Node → Node → Bool) (order : IsStrictWeakOrder lt) (n : Node) where
   -- the rows before it end where those after it begin, or further in front
-  meets : (x : Row) (xs : List Row) (i j : ℕ) → i ≤ length (x ∷ xs) → AllWithin (λ r. lt r.node n ≡ true) (x ∷ xs) 0 i → AllWithin (λ r. not (lt n r.node) ≡ false) (x ∷ xs) j (length (x ∷ xs)) → (j < i) ⊎ (i ≤ j) → i ≤ j
+  meets : (x : Row) (xs : List Row) (i j : ℕ) → i ≤ length (x ∷ xs) → AllWithin (λ r. lt r.node n ≡ true) (x ∷ xs) 0 i →
+      AllWithin (λ r. not (lt n r.node) ≡ false) (x ∷ xs) j (length (x ∷ xs)) → (j < i) ⊎ (i ≤ j) → i ≤ j
   meets x xs i j le low high (inr h) = h
   meets x xs i j le low high (inl h) =
       let y = get_or (x ∷ xs) j x in
@@ -67,13 +70,15 @@ self n m e l =
     let b = node_order.one_way m m a in
     absurd cc
 
-pub outside_node : (n : Node) (rows : List Row) (i j : ℕ) → AllWithin (λ r. node_lt r.node n ≡ true) rows 0 i → AllWithin (λ r. not (node_lt n r.node) ≡ false) rows j (length rows) → AreOutside (λ q. n ≡ q.node → ⊥) i j (config_of rows)
+pub outside_node : (n : Node) (rows : List Row) (i j : ℕ) → AllWithin (λ r. node_lt r.node n ≡ true) rows 0 i →
+    AllWithin (λ r. not (node_lt n r.node) ≡ false) rows j (length rows) → AreOutside (λ q. n ≡ q.node → ⊥) i j (config_of rows)
 outside_node n rows i j low high = (
   in_front _ rows i (λ k d a b e. self (get_or rows k d).node n (sym e) (low k d a b)),
   behind _ rows j (λ k d a b e. self n (get_or rows k d).node e (not-false _ (high k d a b))),
 )
 
-pub outside_case : (n : Node) (rows : List Row) (i j : ℕ) → AllWithin (λ r. case_lt r.node n ≡ true) rows 0 i → AllWithin (λ r. not (case_lt n r.node) ≡ false) rows j (length rows) → AreOutside (λ q. IsSameCase n q.node → ⊥) i j (config_of rows)
+pub outside_case : (n : Node) (rows : List Row) (i j : ℕ) → AllWithin (λ r. case_lt r.node n ≡ true) rows 0 i →
+    AllWithin (λ r. not (case_lt n r.node) ≡ false) rows j (length rows) → AreOutside (λ q. IsSameCase n q.node → ⊥) i j (config_of rows)
 outside_case n rows i j low high = (
   in_front _ rows i (λ k d a b e. case_self (get_or rows k d).node n (sym e.0, sym e.1) (low k d a b)),
   behind _ rows j (λ k d a b e. case_self n (get_or rows k d).node e (not-false _ (high k d a b))),
@@ -96,12 +101,14 @@ outside_too : (P R : Q.Row → Type 0) (i j : ℕ) (c : Config) → ((q : Q.Row)
 outside_too P R i j c f each = (each_taken P R c i f each.0, each_dropped P R c j f each.1)
 
 -- a rule that gives nothing leaves all rows but those of its node
-pub untouched_by_none : (n : Node) (i j : ℕ) (c : Config) (s : State) (results : List Value) → length results ≡ 0 → AreOutside (λ q. n ≡ q.node → ⊥) i j c → AreOutside (λ q. row_after n s results q ≡ q) i j c
+pub untouched_by_none : (n : Node) (i j : ℕ) (c : Config) (s : State) (results : List Value) → length results ≡ 0 → AreOutside (λ q. n ≡ q.node → ⊥) i
+    j c → AreOutside (λ q. row_after n s results q ≡ q) i j c
 untouched_by_none n i j c s results e each =
     outside_too _ _ i j c (λ q m other. subst (λ ts. row_after n s ts q ≡ q) (sym (nil_from_length results e)) (other_row n s q other)) each
 
 -- a rule leaves the rows of other cases
-pub untouched_cases : (n : Node) (i j : ℕ) (c : Config) (s : State) (results : List Value) → AreApart c → AreOutside (λ q. IsSameCase n q.node → ⊥) i j c → AreOutside (λ q. row_after n s results q ≡ q) i j c
+pub untouched_cases : (n : Node) (i j : ℕ) (c : Config) (s : State) (results : List Value) → AreApart c → AreOutside (λ q. IsSameCase n q.node → ⊥) i
+    j c → AreOutside (λ q. row_after n s results q ≡ q) i j c
 untouched_cases n i j c s results apart each =
     outside_too _ _ i j c (λ q m other. other_case n s results q (apart q m) other) each
 

@@ -7,7 +7,8 @@ use Rattle.aw_term.specs.Names.{Node, Ref}
 use Rattle.aw_term.specs.Rules.{Ground, Value, Rule, Grammar}
 use Rattle.aw_term.specs.Matching.{Matched, Yes, Waits, Differs, Circle, match_all}
 use Rattle.aw_term.specs.Configs.{State, Pending, Done, Row, Config, row_of}
-use Rattle.aw_term.specs.Choices.{Choice, Start, Develop, Outcome, Refused, Starts, Takes, TooDeep, NotItsRule, Arguments, deep, after_guard, at_rule, at_state, at_row, not_held, outcome, answer_of, is_taken, answer, taken, or_same, after, undivided}
+use Rattle.aw_term.specs.Choices.{Choice, Start, Develop, Outcome, Refused, Starts, Takes, TooDeep, NotItsRule, Arguments, deep, after_guard, at_rule}
+use Rattle.aw_term.specs.Choices.{at_state, at_row, not_held, outcome, answer_of, is_taken, answer, taken, or_same, after, undivided}
 use Rattle.aw_term.specs.Runs.{after_all}
 use Rattle.aw_plain.specs.InTurn.{taken_among, RunsUndivided, TakesUndivided}
 

@@ -46,7 +46,8 @@ pub value_pushed : (ts us : List Tree) (t : Tree) (v : Value) → us ≡ ts ++ t
 value_pushed ts us t v e w = ap values_of e ∙ map-append value_of ts (t ∷ []) ∙ ap (λ v. values_of ts ++ v ∷ []) w
 
 -- one more part at the front of those still to be gone through
-pub front_part : (g : Tree → Value) (ps : List Tree) (ts : List Value) (i k : ℕ) (p : Tree) → k ≡ i + 1 → i < length ps → p ≡ get_or ps i p → (ts ++ g p ∷ []) ++ map g (drop k ps) ≡ ts ++ map g (drop i ps)
+pub front_part : (g : Tree → Value) (ps : List Tree) (ts : List Value) (i k : ℕ) (p : Tree) → k ≡ i + 1 → i < length ps → p ≡ get_or ps i p →
+    (ts ++ g p ∷ []) ++ map g (drop k ps) ≡ ts ++ map g (drop i ps)
 front_part g ps ts i k p ek lt ep =
     append_assoc ts (g p ∷ []) (map g (drop k ps))
     ∙ ap (λ us. ts ++ us) (ap (λ n. g p ∷ map g (drop n ps)) ek ∙ ap (λ q. g q ∷ map g (drop (i + 1) ps)) ep ∙ sym (at_drop_more (map g) ps i p lt))
@@ -58,7 +59,8 @@ binds_join f (t ∷ ts) = ap (More (bind f t)) (binds_join f ts)
 pub bind_parts : {A B X : Type 0} (f : A → P.Tree B) (g : X → P.Tree A) (c : ℕ) (ps : List X) → bind f (Made (P.Con c) (join (map g ps))) ≡ Made (P.Con c) (join (map (λ t. bind f (g t)) ps))
 bind_parts f g c ps = ap (Made (P.Con c)) (binds_join f (map g ps) ∙ ap join (map-map (bind f) g ps))
 
-pub bind_con : (f : Ref → Value) (t : Tree) (c : ℕ) (w : Bool) (ts : Rc (Vec Tree Global) Global) (ps : List Tree) → t ≡ Con c w ts → w ≡ false → ps ≡ ts.value.items → bind f (value_of t) ≡ Made (P.Con c) (join (map (λ t. bind f (value_of t)) ps))
+pub bind_con : (f : Ref → Value) (t : Tree) (c : ℕ) (w : Bool) (ts : Rc (Vec Tree Global) Global) (ps : List Tree) → t ≡ Con c w ts → w ≡ false →
+    ps ≡ ts.value.items → bind f (value_of t) ≡ Made (P.Con c) (join (map (λ t. bind f (value_of t)) ps))
 bind_con f t c w ts ps e m i =
     ap (λ t. bind f (value_of t)) (e ∙ ap (λ w. Con c w ts) m) ∙ ap (bind f) (value_con false c false ts)
     ∙ bind_parts f value_of c ts.value.items ∙ ap (λ qs. Made (P.Con c) (join (map (λ t. bind f (value_of t)) qs))) (sym i)

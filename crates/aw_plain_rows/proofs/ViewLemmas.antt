@@ -19,7 +19,8 @@ pub value_con : (w : Bool) (c : ℕ) (m : Bool) (ts : Rc (Vec tree.Tree Global) 
 value_con w c m ts = ap (Made (P.Con c)) (row_list (w || m) _ (tree_block.hidden-the_row-Tree-0 ts.value) ∙ ap (λ qs. join (map (value_under (w || m)) qs)) (tree.items_hidden-the_row-Tree-0 ts.value))
 
 -- the parts of a constructor, each as a value of its own
-pub value_parts : (t : tree.Tree) (c : ℕ) (m : Bool) (ts : Rc (Vec tree.Tree Global) Global) (ps : List tree.Tree) → t ≡ tree.Con c m ts → ps ≡ ts.value.items → value_of t ≡ Made (P.Con c) (join (map (value_under m) ps))
+pub value_parts : (t : tree.Tree) (c : ℕ) (m : Bool) (ts : Rc (Vec tree.Tree Global) Global) (ps : List tree.Tree) → t ≡ tree.Con c m ts →
+    ps ≡ ts.value.items → value_of t ≡ Made (P.Con c) (join (map (value_under m) ps))
 value_parts t c m ts ps e i = ap value_of e ∙ value_con false c m ts ∙ ap (λ qs. Made (P.Con c) (join (map (value_under m) qs))) (sym i)
 
 -- nothing is looked for below a mark

@@ -32,18 +32,21 @@ pub made_on : (old new : Printing) (out : List ℕ) → new.gathered ≡ old.gat
 made_on old new out g r =
     ap (λ (b : Bounded). b.text ++ new.gathered) r ∙ ap (λ t. old.report.text ++ t) g ∙ sym (append_assoc old.report.text old.gathered out)
 
-pub kept_grows : (o : Origin) (old new : Desk) (out : List ℕ) → new.printing.gathered ≡ old.printing.gathered ++ out → new.printing.report ≡ old.printing.report → new.table ≡ old.table → AreKept o old → AreKept o new
+pub kept_grows : (o : Origin) (old new : Desk) (out : List ℕ) → new.printing.gathered ≡ old.printing.gathered ++ out →
+    new.printing.report ≡ old.printing.report → new.table ≡ old.table → AreKept o old → AreKept o new
 kept_grows o old new out g r s kept = record {
   texts = λ x h. kept_on o (made old.printing) (made new.printing) out x (made_on old.printing new.printing out g r) (kept.texts x (subst (λ (t : Table). Holds t.spans x) s h));
   ends = subst (λ (t : Table). AreEnds o.equations o.names t.ends) (sym s) kept.ends;
 }
 
 -- no piece is left, also when more was gathered
-pub rest_on : (o : Origin) (old new : Desk) (out : List ℕ) → new.printing.gathered ≡ old.printing.gathered ++ out → new.printing.report ≡ old.printing.report → new.pieces ≡ old.pieces → new.table ≡ old.table → IsAtRest o old → IsAtRest o new
+pub rest_on : (o : Origin) (old new : Desk) (out : List ℕ) → new.printing.gathered ≡ old.printing.gathered ++ out →
+    new.printing.report ≡ old.printing.report → new.pieces ≡ old.pieces → new.table ≡ old.table → IsAtRest o old → IsAtRest o new
 rest_on o old new out g r p s rest = (p ∙ rest.0, kept_grows o old new out g r s rest.1)
 
 -- a text behind which nothing is left
-pub begun_leaf : (o : Origin) (all : ℕ → Draft) (old new : Desk) (out : List ℕ) → new.printing.gathered ≡ old.printing.gathered ++ out → new.printing.report ≡ old.printing.report → new.pieces ≡ old.pieces → new.table ≡ old.table →
+pub begun_leaf : (o : Origin) (all : ℕ → Draft) (old new : Desk) (out : List ℕ) → new.printing.gathered ≡ old.printing.gathered ++ out →
+    new.printing.report ≡ old.printing.report → new.pieces ≡ old.pieces → new.table ≡ old.table →
     AreKept o old → (m : ℕ) → all m ≡ Whole out → Begun o all None old new
 begun_leaf o all old new out g r p s kept m e = record {
   out = out;
@@ -60,7 +63,8 @@ begun_leaf o all old new out g r p s kept m e = record {
 }
 
 -- a text that stands where it is kept
-pub begun_again : (o : Origin) (all : ℕ → Draft) (d : Desk) (x : Span) → AreKept o d → IsKept o (made d.printing) x → (m : ℕ) → all m ≡ Whole (slice_range (made d.printing) x.from x.until) → Begun o all (Some x) d d
+pub begun_again : (o : Origin) (all : ℕ → Draft) (d : Desk) (x : Span) → AreKept o d → IsKept o (made d.printing) x → (m : ℕ) →
+    all m ≡ Whole (slice_range (made d.printing) x.from x.until) → Begun o all (Some x) d d
 begun_again o all d x kept is m e =
     let t = slice_range (made d.printing) x.from x.until in
     record {
@@ -85,13 +89,15 @@ con_is names (Some (P.Is (T.Con d) parts)) c n w = let e : d ≡ c = sym w.0 in 
 con_is names (Some (P.Is (T.Num d) parts)) c n w = elim w [ ]
 con_is names (Some (P.Is (T.Text d) parts)) c n w = elim w [ ]
 
-pub con_chase : (k : Map) (names : List Ref) (at c n : ℕ) (r : Ref) → IsKindOf names (body_at k names at) (kind.Con c n) → slice_get names at ≡ Some r → chase k r ≡ Found (T.Con c) (parts_at k names at)
+pub con_chase : (k : Map) (names : List Ref) (at c n : ℕ) (r : Ref) → IsKindOf names (body_at k names at) (kind.Con c n) → slice_get names at ≡ Some
+    r → chase k r ≡ Found (T.Con c) (parts_at k names at)
 con_chase k names at c n r w e =
     let found : find k r ≡ Some (P.Is (T.Con c) (parts_at k names at)) = ap (option_and_then (find k)) (sym e) ∙ con_is names (body_at k names at) c n w in
     ends-chase k (At_body (T.Con c) (parts_at k names at)) (stands found refl)
 
 -- what was printed of the constructor at a slot is the text of each reference whose chase ends there
-pub con_text : (o : Origin) (r s : Ref) (c : ℕ) (parts : List Ref) (t : List ℕ) → chase o.equations s ≡ Found (T.Con c) parts → (m : ℕ) → draft m o.words o.equations s ≡ Whole t → (n : ℕ) × (end_draft o r (Found (T.Con c) parts) n ≡ Whole t)
+pub con_text : (o : Origin) (r s : Ref) (c : ℕ) (parts : List Ref) (t : List ℕ) → chase o.equations s ≡ Found (T.Con c) parts → (m : ℕ) →
+    draft m o.words o.equations s ≡ Whole t → (n : ℕ) × (end_draft o r (Found (T.Con c) parts) n ≡ Whole t)
 con_text o r s c parts t e zero d = absurd (cc d)
 con_text o r s c parts t e (suc n) d = (n, sym (ap (draft_on o.words (draft n o.words o.equations) s) e) ∙ d)
 
@@ -116,13 +122,17 @@ con_alone o r c [] l = refl
 con_alone o r c (p ∷ ps) l = absurd (omega (arith, l))
 
 -- a constructor up to its first part, and its parts
-con_draft : (head : List ℕ) (f : Ref → Draft) (parts : List Ref) (inner : Draft) → 0 < length parts → inner ≡ listed (map f parts) → then (Whole (head ++ codes "(")) (then inner (Whole (codes ")"))) ≡ with_parts head (map f parts)
+con_draft : (head : List ℕ) (f : Ref → Draft) (parts : List Ref) (inner : Draft) → 0 < length parts → inner ≡ listed (map f parts) →
+    then (Whole (head ++ codes "(")) (then inner (Whole (codes ")"))) ≡ with_parts head (map f parts)
 con_draft head f [] inner l e = absurd (omega (arith, l))
 con_draft head f (r ∷ rs) inner l e = ap (λ d. then (Whole (head ++ codes "(")) (then d (Whole (codes ")")))) e
 
-pub begun_con : (o : Origin) (old new : Desk) (c at n from : ℕ) (mid : List ℕ) (noted : List Piece) (r : Ref) → IsKindOf o.names (body_at o.equations o.names at) (kind.Con c n) → 0 < length (parts_at o.equations o.names at) →
-    mid ≡ old.printing.gathered ++ head_text o.words (T.Con c) → new.printing.gathered ≡ mid ++ codes "(" → new.printing.report ≡ old.printing.report → new.table ≡ old.table → from ≡ length (made old.printing) →
-    noted ≡ old.pieces ++ Close at from ∷ [] → Notes o (λ m. listed (map (draft m o.words o.equations) (parts_at o.equations o.names at))) noted new.pieces → length new.pieces ≤ length noted + 256 → AreKept o old →
+pub begun_con : (o : Origin) (old new : Desk) (c at n from : ℕ) (mid : List ℕ) (noted : List Piece) (r : Ref) →
+    IsKindOf o.names (body_at o.equations o.names at) (kind.Con c n) → 0 < length (parts_at o.equations o.names at) →
+    mid ≡ old.printing.gathered ++ head_text o.words (T.Con c) → new.printing.gathered ≡ mid ++ codes "(" →
+    new.printing.report ≡ old.printing.report → new.table ≡ old.table → from ≡ length (made old.printing) →
+    noted ≡ old.pieces ++ Close at from ∷ [] → Notes o (λ m. listed (map (draft m o.words o.equations) (parts_at o.equations o.names at))) noted
+    new.pieces → length new.pieces ≤ length noted + 256 → AreKept o old →
     Begun o (end_draft o r (Found (T.Con c) (parts_at o.equations o.names at))) None old new
 begun_con o old new c at n from mid noted r w some e f report spans start g notes few kept =
     let parts = parts_at o.equations o.names at in
@@ -150,7 +160,8 @@ begun_con o old new c at n from mid noted r w some e f report spans start g note
           λ s h m. (
             suc m,
             subst (Begins (begun_draft o bytes from notes.added m))
-                (ap (λ t. then (Whole t) (then (pieces_draft o notes.added m) (Whole (codes ")")))) behind ∙ whole m ∙ sym (ap (draft_on o.words (draft m o.words o.equations) s) (con_chase o.equations o.names at c n s w h)))
+                (ap (λ t. then (Whole t) (then (pieces_draft o notes.added m) (Whole (codes ")")))) behind ∙ whole m
+                ∙ sym (ap (draft_on o.words (draft m o.words o.equations) s) (con_chase o.equations o.names at c n s w h)))
                 (Begins-self (begun_draft o bytes from notes.added m)),
           ),
         ),
@@ -161,12 +172,15 @@ begun_con o old new c at n from mid noted r w some e f report spans start g note
     }
 
 -- the constructor that was found
-pub opens_body : {E : Type 0} (o : Origin) (at c n : ℕ) (result : Result (Option Span) E) (old new : Desk) → IsKindOf o.names (body_at o.equations o.names at) (kind.Con c n) → IfOk result (λ again. OpensCon o at c again old new) → IfOk result (λ again. OpensBody o at again old new)
+pub opens_body : {E : Type 0} (o : Origin) (at c n : ℕ) (result : Result (Option Span) E) (old new : Desk) →
+    IsKindOf o.names (body_at o.equations o.names at) (kind.Con c n) → IfOk result (λ again. OpensCon o at c again old new) →
+    IfOk result (λ again. OpensBody o at again old new)
 opens_body o at c n (Ok again) old new w h = λ r head rs e. subst (λ (x : Chased). Begun o (end_draft o r x) again old new) (con_found o.names (body_at o.equations o.names at) c n head rs w e) (h r)
 opens_body o at c n (Err fault) old new w h = tt
 
 -- where the chase of a slot ends
-pub opens_slot : {E : Type 0} (o : Origin) (slot at : ℕ) (result : Result (Option Span) E) (old new : Desk) → ((r : Ref) → slice_get o.names slot ≡ Some r → IsChasedTo o.equations o.names slot (chase o.equations r) (answer.Found at)) →
+pub opens_slot : {E : Type 0} (o : Origin) (slot at : ℕ) (result : Result (Option Span) E) (old new : Desk) →
+    ((r : Ref) → slice_get o.names slot ≡ Some r → IsChasedTo o.equations o.names slot (chase o.equations r) (answer.Found at)) →
     IfOk result (λ again. OpensBody o at again old new) → IfOk result (λ again. OpensSlot o slot again old new)
 opens_slot o slot at (Ok again) old new w h = λ r e.
     let (head, rs, f, b, l) = chased_found o.equations o.names slot at (chase o.equations r) (w r e) in
@@ -177,7 +191,8 @@ pub some_is : {A : Type 0} {x y : A} → Some x ≡ Some y → x ≡ y
 some_is e = cc
 
 -- what is begun behind a chase is begun, whatever the chase kept
-pub begun_since : (o : Origin) (all : ℕ → Draft) (again : Option Span) (old mid new : Desk) → mid.printing ≡ old.printing → mid.pieces ≡ old.pieces → Begun o all again mid new → Begun o all again old new
+pub begun_since : (o : Origin) (all : ℕ → Draft) (again : Option Span) (old mid new : Desk) → mid.printing ≡ old.printing → mid.pieces ≡ old.pieces →
+    Begun o all again mid new → Begun o all again old new
 begun_since o all again old mid new p q b = record {
   out = b.out;
   gathered = b.gathered ∙ ap (λ (x : Printing). x.gathered ++ b.out) p;
@@ -192,6 +207,7 @@ begun_since o all again old mid new p q b = record {
   work = omega (arith, b.work, ap length q);
 }
 
-pub slot_since : {E : Type 0} (o : Origin) (slot : ℕ) (result : Result (Option Span) E) (old mid new : Desk) → mid.printing ≡ old.printing → mid.pieces ≡ old.pieces → IfOk result (λ again. OpensSlot o slot again mid new) → IfOk result (λ again. OpensSlot o slot again old new)
+pub slot_since : {E : Type 0} (o : Origin) (slot : ℕ) (result : Result (Option Span) E) (old mid new : Desk) → mid.printing ≡ old.printing →
+    mid.pieces ≡ old.pieces → IfOk result (λ again. OpensSlot o slot again mid new) → IfOk result (λ again. OpensSlot o slot again old new)
 slot_since o slot (Ok again) old mid new p q h = λ r e. begun_since o (end_draft o r (chase o.equations r)) again old mid new p q (h r e)
 slot_since o slot (Err fault) old mid new p q h = tt

@@ -27,7 +27,8 @@ pub range_long : (xs : List ℕ) (from until : ℕ) → from ≤ until → until
 range_long xs from until a b = length-take-le (until - from) (drop from xs) (omega (arith, a, b, length-drop from xs))
 
 -- some more is copied
-pub copy_step : (r0 r1 r2 : Bounded) (from at end : ℕ) → from ≤ at → at ≤ end → end ≤ length r0.text → r1 ≡ printed r0 (slice_range r0.text from at) → r2 ≡ printed r1 (slice_range r1.text at end) → r2 ≡ printed r0 (slice_range r0.text from end)
+pub copy_step : (r0 r1 r2 : Bounded) (from at end : ℕ) → from ≤ at → at ≤ end → end ≤ length r0.text → r1 ≡ printed r0 (slice_range r0.text from at) →
+    r2 ≡ printed r1 (slice_range r1.text at end) → r2 ≡ printed r0 (slice_range r0.text from end)
 copy_step r0 r1 r2 from at end a b l e f =
     f ∙ ap (printed r1) (range_on at end r0.text r1.text (slice_range r0.text from at) b l (ap (λ (r : Bounded). r.text) e))
     ∙ ap (λ (r : Bounded). printed r (slice_range r0.text at end)) e ∙ printed-append r0 (slice_range r0.text from at) (slice_range r0.text at end)
@@ -37,14 +38,25 @@ whole_front : (t : List ℕ) (old new : Bounded) → new ≡ printed old t → P
 whole_front t old new e = (length t, omega arith, e ∙ ap (printed old) (sym (take-length t)))
 
 -- the rest is not copied
-pub copy_stops : (r0 r1 r2 : Bounded) (from at until : ℕ) (fault : PrintFault) (result : Result Unit PrintFault) → from ≤ at → at ≤ until → until ≤ length r0.text → r1 ≡ printed r0 (slice_range r0.text from at) → r2 ≡ r1 →
+pub copy_stops : (r0 r1 r2 : Bounded) (from at until : ℕ) (fault : PrintFault) (result : Result Unit PrintFault) → from ≤ at → at ≤ until →
+    until ≤ length r0.text → r1 ≡ printed r0 (slice_range r0.text from at) → r2 ≡ r1 →
     (fault ≡ TooLarge → r1.limit < length r1.text + (until - at)) → result ≡ Err fault → Prints (slice_range r0.text from until) r0 r2 result
 copy_stops r0 r1 r2 from at until fault result a b l e f large is = subst (Prints (slice_range r0.text from until) r0 r2) (sym is) (record {
   ok = tt;
   too_large = λ h.
       let g : fault ≡ TooLarge = cc in
-      omega (arith, large g, ap (λ (r : Bounded). r.limit) e, ap (λ (r : Bounded). length r.text) e, length-append r0.text (slice_range r0.text from at), range_long r0.text from at a (omega (arith, b, l)), range_long r0.text from until (omega (arith, a, b)) l);
-  front = subst (λ t. PrintsFront t r0 r2) (sym (range_more r0.text from at until a b)) (PrintsFront-first (slice_range r0.text from at) (slice_range r0.text at until) r0 r2 (whole_front (slice_range r0.text from at) r0 r2 (f ∙ e)));
+      omega (
+        arith,
+        large g,
+        ap (λ (r : Bounded). r.limit) e,
+        ap (λ (r : Bounded). length r.text) e,
+        length-append r0.text
+            (slice_range r0.text from at),
+        range_long r0.text from at a (omega (arith, b, l)),
+        range_long r0.text from until (omega (arith, a, b)) l,
+      );
+  front = subst (λ t. PrintsFront t r0 r2) (sym (range_more r0.text from at until a b)) (PrintsFront-first (slice_range r0.text from at)
+      (slice_range r0.text at until) r0 r2 (whole_front (slice_range r0.text from at) r0 r2 (f ∙ e)));
 })
 
 -- what was gathered is added, and then the limit would be passed

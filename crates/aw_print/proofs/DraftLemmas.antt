@@ -60,7 +60,8 @@ listed-Begins f g h (x ∷ xs) = then-Begins (f x) (g x) _ _ (h x) (following-Be
 
 draft_on-Begins : (w : Words) (f g : Ref → Draft) → ((r : Ref) → Begins (f r) (g r)) → (r : Ref) (end : Chased) → Begins (draft_on w f r end) (draft_on w g r end)
 draft_on-Begins w f g h r (Found c []) = refl
-draft_on-Begins w f g h r (Found c (s ∷ rs)) = then-Begins (Whole _) (Whole _) _ _ refl (then-Begins (listed (map f (s ∷ rs))) (listed (map g (s ∷ rs))) (Whole (codes ")")) (Whole (codes ")")) (listed-Begins f g h (s ∷ rs)) refl)
+draft_on-Begins w f g h r (Found c (s ∷ rs)) = then-Begins (Whole _) (Whole _) _ _ refl
+    (then-Begins (listed (map f (s ∷ rs))) (listed (map g (s ∷ rs))) (Whole (codes ")")) (Whole (codes ")")) (listed-Begins f g h (s ∷ rs)) refl)
 draft_on-Begins w f g h r (Missing s) = refl
 draft_on-Begins w f g h r Round = refl
 

@@ -73,9 +73,11 @@ endless-front (suc n) w k r (s, b, p, q) =
 
 values-front : (n : ℕ) (w : Words) (k : Map) (ins outs : List Ref) (r : Ref) → Member r ins ⊎ Member r outs → IsEndless k r → IsFront (values_draft n w k ins outs)
 values-front n w k ins outs r (inl m) e = front-then (listed (map (draft n w k) ins)) _ (listed-front (draft n w k) ins r m (endless-front n w k r e))
-values-front n w k ins outs r (inr m) e = then-front (listed (map (draft n w k) ins)) _ (then-front (Whole (codes ") <")) _ (front-then (listed (map (draft n w k) outs)) _ (listed-front (draft n w k) outs r m (endless-front n w k r e))))
+values-front n w k ins outs r (inr m) e = then-front (listed (map (draft n w k) ins)) _
+    (then-front (Whole (codes ") <")) _ (front-then (listed (map (draft n w k) outs)) _ (listed-front (draft n w k) outs r m (endless-front n w k r e))))
 
 -- a line with such a value is never printed whole
-pub never_ends : (w : Words) (k : Map) (opening : List ℕ) (ins outs : List Ref) (r : Ref) → Member r (ins ++ outs) → IsEndless k r → (old new : Bounded) (result : Result Unit PrintFault) → Ended (λ n. then (Whole opening) (values_draft n w k ins outs)) old new result → IsErr result
+pub never_ends : (w : Words) (k : Map) (opening : List ℕ) (ins outs : List Ref) (r : Ref) → Member r (ins ++ outs) → IsEndless k r →
+    (old new : Bounded) (result : Result Unit PrintFault) → Ended (λ n. then (Whole opening) (values_draft n w k ins outs)) old new result → IsErr result
 never_ends w k opening ins outs r m e old new (Ok done) (n, t, is, _) = let f = then-front (Whole opening) _ (values-front n w k ins outs r (member_split r ins outs m) e) in absurd (cc (f.1, is))
 never_ends w k opening ins outs r m e old new (Err fault) s = search rules

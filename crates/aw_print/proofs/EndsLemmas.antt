@@ -98,7 +98,8 @@ pub none_kept : (k : Map) (names : List Ref) (ends : Ends) → KeepsNone ends �
 none_kept k names ends none = λ slot end h. absurd (got_none ends.kept.items slot end none h)
 
 -- one end more is kept
-pub ends_more : (k : Map) (names : List Ref) (old new : Ends) (at : ℕ) (last : Chase) → ((i : ℕ) (x : Chase) → Keeps new i x → ((i ≡ at) × (x ≡ last)) ⊎ Keeps old i x) → AreEnds k names old → EndsAt k names at last → AreEnds k names new
+pub ends_more : (k : Map) (names : List Ref) (old new : Ends) (at : ℕ) (last : Chase) → ((i : ℕ) (x : Chase) → Keeps new i x → ((i ≡ at) × (x ≡ last))
+    ⊎ Keeps old i x) → AreEnds k names old → EndsAt k names at last → AreEnds k names new
 ends_more k names old new at last h ends e = λ i x kept. elim (h i x kept) [
   | inl (p, q) ↦ subst (λ j. EndsAt k names j x) (sym p) (subst (EndsAt k names at) (sym q) e)
   | inr o ↦ ends i x o

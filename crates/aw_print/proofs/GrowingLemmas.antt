@@ -57,7 +57,8 @@ stops_later all left old mid new fault u s = record {
   front =
       let n = s.front.0 in
       let (m, rest, f) = fronts all left old mid u n in
-      let made : old.gathered ++ so_far (all m) ≡ (u.taken ++ (mid.gathered ++ so_far (left n))) ++ rest = whole_text old.gathered u.out u.taken mid.gathered (so_far (left n)) rest (so_far (all m)) f u.gathered in (
+      let made : old.gathered ++ so_far (all m) ≡ (u.taken ++ (mid.gathered ++ so_far (left n))) ++ rest = whole_text old.gathered u.out u.taken
+      mid.gathered (so_far (left n)) rest (so_far (all m)) f u.gathered in (
         m,
         subst (λ t. PrintsFront t old.report new) (sym made)
             (PrintsFront-first (u.taken ++ (mid.gathered ++ so_far (left n))) rest old.report new
@@ -108,8 +109,11 @@ first_stops one left old new fault s = record {
       (n, simp length-append (omega (arith, simp length-append at l, simp length-append at (ap length f))));
   front =
       let n = s.front.0 in
-      let (rest, f) = so_far-then (one n) (left n) in
-      (n, subst (λ t. PrintsFront t old.report new) (append_assoc old.gathered (so_far (one n)) rest ∙ ap (λ t. old.gathered ++ t) (sym f)) (PrintsFront-first (old.gathered ++ so_far (one n)) rest old.report new s.front.1));
+      let (rest, f) = so_far-then (one n) (left n) in (
+        n,
+        subst (λ t. PrintsFront t old.report new) (append_assoc old.gathered (so_far (one n)) rest ∙ ap (λ t. old.gathered ++ t) (sym f))
+            (PrintsFront-first (old.gathered ++ so_far (one n)) rest old.report new s.front.1),
+      );
 }
 
 -- memory was missing before anything more was added to the report
@@ -138,7 +142,8 @@ not_flushed left t r s fault e f = record {
 
 -- what was gathered went to the report, or was not taken
 pub gathers : (all left : ℕ → Draft) (old mid : Printing) (t : List ℕ) (s : Bounded) (result : Result Unit PrintFault) → Underway all old mid left →
-    OnOk result ((taken : List ℕ) × (s ≡ printed mid.report taken) × (taken ++ t ≡ mid.gathered)) → OnErr result (s ≡ mid.report) → (result ≡ Err TooLarge → mid.report.limit < length mid.report.text + length mid.gathered) → PutsTo all old (printing t s) left result
+    OnOk result ((taken : List ℕ) × (s ≡ printed mid.report taken) × (taken ++ t ≡ mid.gathered)) → OnErr result (s ≡ mid.report) →
+    (result ≡ Err TooLarge → mid.report.limit < length mid.report.text + length mid.gathered) → PutsTo all old (printing t s) left result
 gathers all left old mid t s (Ok done) u ok err long = let (taken, e, f) = ok in goes_on all left left old mid (printing t s) u (flushed left mid.gathered t taken mid.report s e f)
 gathers all left old mid t s (Err fault) u ok err long = stops_later all left old mid s fault u (not_flushed left mid.gathered mid.report s fault err (λ e. long (ap Err e)))
 
@@ -148,7 +153,8 @@ then_puts all left more old mid new (Ok done) u p = goes_on all left more old mi
 then_puts all left more old mid new (Err fault) u p = stops_later all left old mid new.report fault u p
 
 -- the first of two is printed, or not
-pub first_puts : (one left : ℕ → Draft) (old new : Printing) (result : Result Unit PrintFault) → Grows one → Grows left → Puts one old new result → PutsTo (λ n. then (one n) (left n)) old new left result
+pub first_puts : (one left : ℕ → Draft) (old new : Printing) (result : Result Unit PrintFault) → Grows one → Grows left → Puts one old new result →
+    PutsTo (λ n. then (one n) (left n)) old new left result
 first_puts one left old new (Ok done) go gl u = first_of one left old new go gl u
 first_puts one left old new (Err fault) go gl s = first_stops one left old new.report fault s
 
@@ -169,7 +175,8 @@ whole_is a (Whole b) p = ap Whole p
 whole_is a (Front b) p = elim p [ ]
 
 -- what was gathered last is printed
-pub finish : (all : ℕ → Draft) (r0 r1 r2 : Bounded) (t : List ℕ) (result : Result Unit PrintFault) → Underway all (printing [] r0) (printing t r1) (λ n. Whole []) → Prints t r1 r2 result → Ended all r0 r2 result
+pub finish : (all : ℕ → Draft) (r0 r1 r2 : Bounded) (t : List ℕ) (result : Result Unit PrintFault) → Underway all (printing [] r0) (printing t r1)
+    (λ n. Whole []) → Prints t r1 r2 result → Ended all r0 r2 result
 finish all r0 r1 r2 t (Ok done) u p =
     let (m, b) = u.rest 0 in
     (m, u.out, whole_is _ (all m) b ∙ ap Whole (append-nil u.out), p.ok ∙ ap (λ r. printed r t) u.report ∙ printed-append r0 u.taken t ∙ ap (printed r0) u.gathered)

@@ -43,7 +43,8 @@ first_and w k r rs ss old mid new res e u p =
 pub first_not : (w : Words) (k : Map) (r : Ref) (rs ss : List Ref) (old new : Printing) (fault : PrintFault) → rs ≡ r ∷ ss →
     Puts (λ n. draft n w k r) old new (Err fault) → Puts (λ n. listed (map (draft n w k) rs)) old new (Err fault)
 first_not w k r rs ss old new fault e p =
-    alike (λ n. then (draft n w k r) (following (map (draft n w k) ss))) (λ n. listed (map (draft n w k) rs)) (λ n. Whole []) old new (Err fault) (λ n. ap (λ xs. listed (map (draft n w k) xs)) (sym e))
+    alike (λ n. then (draft n w k r) (following (map (draft n w k) ss))) (λ n. listed (map (draft n w k) rs)) (λ n. Whole []) old new (Err fault)
+    (λ n. ap (λ xs. listed (map (draft n w k) xs)) (sym e))
     (first_puts (λ n. draft n w k r) (λ n. following (map (draft n w k) ss)) old new (Err fault) (λ n. draft-next n w k r) (following-Grow w k ss) p)
 
 pub at_item : (rs : List Ref) (i : ℕ) (r : Ref) → i < length rs → r ≡ get_or rs i r → drop i rs ≡ r ∷ drop (i + 1) rs
@@ -64,10 +65,13 @@ before (suc n) = codes ", "
 pub listed-push : (ts : List (List ℕ)) (t : List ℕ) → A.listed (ts ++ t ∷ []) ≡ A.listed ts ++ (before (length ts) ++ t)
 listed-push [] t = refl
 listed-push (a ∷ []) t = refl
-listed-push (a ∷ b ∷ ts) t = ap (λ x. a ++ (codes ", " ++ x)) (listed-push (b ∷ ts) t) ∙ sym (append_assoc a (codes ", " ++ A.listed (b ∷ ts)) (codes ", " ++ t) ∙ ap (λ x. a ++ x) (append_assoc (codes ", ") (A.listed (b ∷ ts)) (codes ", " ++ t)))
+listed-push (a ∷ b ∷ ts) t = ap (λ x. a ++ (codes ", " ++ x)) (listed-push (b ∷ ts) t)
+    ∙ sym (append_assoc a (codes ", " ++ A.listed (b ∷ ts)) (codes ", " ++ t)
+    ∙ ap (λ x. a ++ x) (append_assoc (codes ", ") (A.listed (b ∷ ts)) (codes ", " ++ t)))
 
 -- nothing is left
-pub no_more : (w : Words) (k : Map) (all : ℕ → Draft) (old new : Printing) (rs : List Ref) → rs ≡ [] → Underway all old new (λ n. following (map (draft n w k) rs)) → Underway all old new (λ n. Whole [])
+pub no_more : (w : Words) (k : Map) (all : ℕ → Draft) (old new : Printing) (rs : List Ref) → rs ≡ [] → Underway all old new
+    (λ n. following (map (draft n w k) rs)) → Underway all old new (λ n. Whole [])
 no_more w k all old new rs e u = subst (λ xs. Underway all old new (λ n. following (map (draft n w k) xs))) e u
 
 pub none_listed : (w : Words) (k : Map) (rs : List Ref) (p : Printing) → rs ≡ [] → Underway (λ n. listed (map (draft n w k) rs)) p p (λ n. Whole [])
@@ -105,12 +109,14 @@ ground_text-con w g c ps e = ap (λ x. A.ground_text w (ground_of x)) e ∙ ap (
 pub con_text-none : (w : Words) (c : ℕ) (ps : List grounds.Ground) → ps ≡ [] → con_text w c ps ≡ get [] w.cons c
 con_text-none w c ps e = ap (con_text w c) e
 
-pub con_text-some : (w : Words) (c : ℕ) (ps : List grounds.Ground) → (ps ≡ [] → ⊥) → con_text w c ps ≡ get [] w.cons c ++ (codes "(" ++ (A.listed (map (A.ground_text w) (map ground_of ps)) ++ codes ")"))
+pub con_text-some : (w : Words) (c : ℕ) (ps : List grounds.Ground) → (ps ≡ [] → ⊥) → con_text w c ps ≡ get [] w.cons
+    c ++ (codes "(" ++ (A.listed (map (A.ground_text w) (map ground_of ps)) ++ codes ")"))
 con_text-some w c [] e = absurd (e refl)
 con_text-some w c (p ∷ ps) e = refl
 
 -- one more argument
-pub one_argument : (w : Words) (ps : List grounds.Ground) (i : ℕ) (p : grounds.Ground) (old t mid new between : List ℕ) → i < length ps → p ≡ get_or ps i p → between ≡ before i → t ≡ old ++ A.listed (map (A.ground_text w) (map ground_of (take i ps))) →
+pub one_argument : (w : Words) (ps : List grounds.Ground) (i : ℕ) (p : grounds.Ground) (old t mid new between : List ℕ) → i < length ps →
+    p ≡ get_or ps i p → between ≡ before i → t ≡ old ++ A.listed (map (A.ground_text w) (map ground_of (take i ps))) →
     mid ≡ t ++ between → new ≡ mid ++ A.ground_text w (ground_of p) → new ≡ old ++ A.listed (map (A.ground_text w) (map ground_of (take (i + 1) ps)))
 one_argument w ps i p old t mid new between l ep eb et em en =
     let f = λ (x : grounds.Ground). A.ground_text w (ground_of x) in
@@ -120,7 +126,8 @@ one_argument w ps i p old t mid new between l ep eb et em en =
     ∙ ap (λ x. old ++ x) (append_assoc (A.listed texts) (before i) (f p) ∙ ap (λ n. A.listed texts ++ (before n ++ f p)) (sym many) ∙ sym (listed-push texts (f p))
     ∙ ap A.listed (sym (pushed w (take i ps) p)) ∙ ap (λ xs. A.listed (map (A.ground_text w) (map ground_of xs))) (sym (take_more ps i p l ∙ ap (λ x. take i ps ++ x ∷ []) (sym ep))))
   where
-    pushed : (w : Words) (xs : List grounds.Ground) (p : grounds.Ground) → map (A.ground_text w) (map ground_of (xs ++ p ∷ [])) ≡ map (A.ground_text w) (map ground_of xs) ++ A.ground_text w (ground_of p) ∷ []
+    pushed : (w : Words) (xs : List grounds.Ground) (p : grounds.Ground) → map (A.ground_text w) (map ground_of (xs ++ p ∷ [])) ≡ map
+        (A.ground_text w) (map ground_of xs) ++ A.ground_text w (ground_of p) ∷ []
     pushed w [] p = refl
     pushed w (x ∷ xs) p = ap (λ ys. A.ground_text w (ground_of x) ∷ ys) (pushed w xs p)
 
@@ -130,5 +137,6 @@ pub con_done : (w : Words) (g : grounds.Ground) (c : ℕ) (ps qs : List grounds.
 con_done w g c ps qs name old t1 t2 t3 new eg eq some en e1 e2 e3 e4 =
     let inner = A.listed (map (A.ground_text w) (map ground_of ps)) in
     e4 ∙ ap (λ t. t ++ codes ")") (e3 ∙ ap (λ xs. t2 ++ A.listed (map (A.ground_text w) (map ground_of xs))) eq ∙ ap (λ t. t ++ inner) (e2 ∙ ap (λ t. t ++ codes "(") (e1 ∙ ap (λ t. old ++ t) en)))
-    ∙ append_assoc ((old ++ get [] w.cons c) ++ codes "(") inner (codes ")") ∙ append_assoc (old ++ get [] w.cons c) (codes "(") (inner ++ codes ")") ∙ append_assoc old (get [] w.cons c) (codes "(" ++ (inner ++ codes ")"))
+    ∙ append_assoc ((old ++ get [] w.cons c) ++ codes "(") inner (codes ")") ∙ append_assoc (old ++ get [] w.cons c) (codes "(") (inner ++ codes ")")
+    ∙ append_assoc old (get [] w.cons c) (codes "(" ++ (inner ++ codes ")"))
     ∙ ap (λ t. old ++ t) (sym (ground_text-con w g c ps eg ∙ con_text-some w c ps some))

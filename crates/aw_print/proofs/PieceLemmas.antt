@@ -13,7 +13,8 @@ use Rattle.aw_print.specs.declared.stack.Span.{Span}
 use Rattle.aw_print.specs.Drafts.{Draft, Whole, then}
 use Rattle.aw_print.specs.Growing.{Begins, LeadTo, Printing, Underway, Puts, PutsTo, made, printing}
 use Rattle.aw_print.specs.Ends.{AreEnds}
-use Rattle.aw_print.specs.Stacks.{Table, named_draft, piece_draft, AreLive, IsOpen, AreOpen, IsKept, AreKept, Holds, Origin, Desk, pieces_draft, end_draft, Begun, OpensSlot, BeginsPiece, Closes, copied, IsSound, IsSoundWith, IsLess}
+use Rattle.aw_print.specs.Stacks.{Table, named_draft, piece_draft, AreLive, IsOpen, AreOpen, IsKept, AreKept, Holds, Origin, Desk, pieces_draft}
+use Rattle.aw_print.specs.Stacks.{end_draft, Begun, OpensSlot, BeginsPiece, Closes, copied, IsSound, IsSoundWith, IsLess}
 use Rattle.aw_print.proofs.DraftLemmas.{then-assoc, Begins-self}
 use Rattle.aw_print.proofs.GrowingLemmas.{goes_on, gathers, first_of, first_stops, stops_later, hands_on}
 use Rattle.aw_print.proofs.LeadLemmas.{lead-same, lead-on, lead-then, lead-behind}
@@ -36,13 +37,15 @@ begun_as o all more again old new h b = record {
   work = b.work;
 }
 
-pub begun_first : (o : Origin) (slot : ℕ) (r : Ref) (again : Option Span) (old new : Desk) → slice_get o.names slot ≡ Some r → Begun o (end_draft o r (chase o.equations r)) again old new → Begun o (λ n. piece_draft n o.words o.equations o.names (First slot)) again old new
+pub begun_first : (o : Origin) (slot : ℕ) (r : Ref) (again : Option Span) (old new : Desk) → slice_get o.names slot ≡ Some r →
+    Begun o (end_draft o r (chase o.equations r)) again old new → Begun o (λ n. piece_draft n o.words o.equations o.names (First slot)) again old new
 begun_first o slot r again old new e b =
     begun_as o (end_draft o r (chase o.equations r)) (λ n. piece_draft n o.words o.equations o.names (First slot)) again old new
     (λ n. (suc n, subst (Begins (end_draft o r (chase o.equations r) n)) (ap (named_draft (suc n) o.words o.equations) (sym e)) (Begins-self (end_draft o r (chase o.equations r) n)))) b
 
 -- behind a text
-begun_behind : (o : Origin) (all : ℕ → Draft) (again : Option Span) (old mid new : Desk) (t : List ℕ) → mid.printing.gathered ≡ old.printing.gathered ++ t → mid.printing.report ≡ old.printing.report → mid.pieces ≡ old.pieces →
+begun_behind : (o : Origin) (all : ℕ → Draft) (again : Option Span) (old mid new : Desk) (t : List ℕ) →
+    mid.printing.gathered ≡ old.printing.gathered ++ t → mid.printing.report ≡ old.printing.report → mid.pieces ≡ old.pieces →
     Begun o all again mid new → Begun o (λ n. then (Whole t) (all n)) again old new
 begun_behind o all again old mid new t e r p b =
     let bytes = copied (made new.printing) again in
@@ -64,12 +67,14 @@ begun_behind o all again old mid new t e r p b =
       work = omega (arith, b.work, ap length p, length-append t b.out);
     }
 
-pub begun_next : (o : Origin) (slot : ℕ) (r : Ref) (again : Option Span) (old mid new : Desk) → slice_get o.names slot ≡ Some r → mid.printing.gathered ≡ old.printing.gathered ++ codes ", " → mid.printing.report ≡ old.printing.report → mid.pieces ≡ old.pieces →
+pub begun_next : (o : Origin) (slot : ℕ) (r : Ref) (again : Option Span) (old mid new : Desk) → slice_get o.names slot ≡ Some r →
+    mid.printing.gathered ≡ old.printing.gathered ++ codes ", " → mid.printing.report ≡ old.printing.report → mid.pieces ≡ old.pieces →
     Begun o (end_draft o r (chase o.equations r)) again mid new → Begun o (λ n. piece_draft n o.words o.equations o.names (Next slot)) again old new
 begun_next o slot r again old mid new e f g p b =
     begun_behind o (λ n. piece_draft n o.words o.equations o.names (First slot)) again old mid new (codes ", ") f g p (begun_first o slot r again mid new e b)
 
-pub begun_close : (o : Origin) (slot from : ℕ) (again : Option Span) (old new : Desk) → Closes slot from again old new → IsOpen o (made old.printing) (Close slot from) [] → AreKept o old → Begun o (λ n. piece_draft n o.words o.equations o.names (Close slot from)) again old new
+pub begun_close : (o : Origin) (slot from : ℕ) (again : Option Span) (old new : Desk) → Closes slot from again old new → IsOpen o (made old.printing)
+    (Close slot from) [] → AreKept o old → Begun o (λ n. piece_draft n o.words o.equations o.names (Close slot from)) again old new
 begun_close o slot from again old new c is_open kept =
     subst (λ x. Begun o (λ n. piece_draft n o.words o.equations o.names (Close slot from)) x old new) (sym c.none)
     (record {
@@ -97,7 +102,8 @@ begun_close o slot from again old new c is_open kept =
 
 -- a piece has begun to be printed
 pub piece_underway : (o : Origin) (p : Piece) (again : Option Span) (old new : Desk) → Begun o (λ n. piece_draft n o.words o.equations o.names p) again old new →
-    Underway (λ n. then (piece_draft n o.words o.equations o.names p) (pieces_draft o old.pieces n)) old.printing new.printing (λ n. then (Whole (copied (made new.printing) again)) (pieces_draft o new.pieces n))
+    Underway (λ n. then (piece_draft n o.words o.equations o.names p) (pieces_draft o old.pieces n)) old.printing new.printing
+    (λ n. then (Whole (copied (made new.printing) again)) (pieces_draft o new.pieces n))
 piece_underway o p again old new b =
     let bytes = copied (made new.printing) again in
     let one = λ (n : ℕ). piece_draft n o.words o.equations o.names p in
@@ -126,11 +132,13 @@ pub sound_on : (o : Origin) (p : Piece) (again : Option Span) (old new last : De
     last.pieces ≡ new.pieces → last.table ≡ new.table → made last.printing ≡ made new.printing ++ copied (made new.printing) again → IsSound o last
 sound_on o p again old new last b sound ps ss e =
     let bytes = copied (made new.printing) again in
-    let is_made : made last.printing ≡ made old.printing ++ (b.out ++ bytes) = e ∙ ap (λ t. t ++ bytes) (made_on old.printing new.printing b.out b.gathered b.report) ∙ append_assoc (made old.printing) b.out bytes in
+    let is_made : made last.printing ≡ made old.printing ++ (b.out ++ bytes) =
+    e ∙ ap (λ t. t ++ bytes) (made_on old.printing new.printing b.out b.gathered b.report) ∙ append_assoc (made old.printing) b.out bytes in
     let below = live_pop o.names old.pieces p sound.live in
     record {
       live = subst (AreLive o.names) (sym (ps ∙ b.stack)) (live_append o.names old.pieces b.added below.0 b.live);
-      ends = subst (AreOpen o (made last.printing)) (sym (ps ∙ b.stack)) (opens_on o (made old.printing) (made last.printing) (b.out ++ bytes) p b.added is_made b.leads (subst (λ t. AreOpen o t b.added) (sym e) b.ends) old.pieces sound.ends);
+      ends = subst (AreOpen o (made last.printing)) (sym (ps ∙ b.stack)) (opens_on o (made old.printing) (made last.printing) (b.out ++ bytes) p
+          b.added is_made b.leads (subst (λ t. AreOpen o t b.added) (sym e) b.ends) old.pieces sound.ends);
       kept = record {
         texts = λ x h. kept_on o (made new.printing) (made last.printing) bytes x e (b.kept.texts x (subst (λ (t : Table). Holds t.spans x) ss h));
         ends = subst (λ (t : Table). AreEnds o.equations o.names t.ends) (sym ss) b.kept.ends;
@@ -140,7 +148,8 @@ sound_on o p again old new last b sound ps ss e =
 -- all bytes, once something was printed
 pub made_under : (all left : ℕ → Draft) (old new : Printing) (u : Underway all old new left) → made new ≡ made old ++ u.out
 made_under all left old new u =
-    ap (λ (r : Bounded). r.text ++ new.gathered) u.report ∙ append_assoc old.report.text u.taken new.gathered ∙ ap (λ t. old.report.text ++ t) u.gathered ∙ sym (append_assoc old.report.text old.gathered u.out)
+    ap (λ (r : Bounded). r.text ++ new.gathered) u.report ∙ append_assoc old.report.text u.taken new.gathered ∙ ap (λ t. old.report.text ++ t)
+    u.gathered ∙ sym (append_assoc old.report.text old.gathered u.out)
 
 -- all bytes, when what was gathered went to the report
 pub made_flushed : (t u taken : List ℕ) (r s : Bounded) → s ≡ printed r taken → taken ++ u ≡ t → made (printing u s) ≡ made (printing t r)
@@ -162,9 +171,11 @@ sound_same o old new p s e sound = record {
 }
 
 -- a piece, the copy behind it, and then what was gathered goes to the report or not
-pub piece_puts : (o : Origin) (p : Piece) (again : Option Span) (old new : Desk) (mid : Printing) (t : List ℕ) (s : Bounded) (result : Result Unit PrintFault) → Begun o (λ n. piece_draft n o.words o.equations o.names p) again old new →
+pub piece_puts : (o : Origin) (p : Piece) (again : Option Span) (old new : Desk) (mid : Printing) (t : List ℕ) (s : Bounded)
+    (result : Result Unit PrintFault) → Begun o (λ n. piece_draft n o.words o.equations o.names p) again old new →
     Puts (λ n. Whole (copied (made new.printing) again)) new.printing mid (Ok tt) →
-    OnOk result ((taken : List ℕ) × (s ≡ printed mid.report taken) × (taken ++ t ≡ mid.gathered)) → OnErr result (s ≡ mid.report) → (result ≡ Err TooLarge → mid.report.limit < length mid.report.text + length mid.gathered) →
+    OnOk result ((taken : List ℕ) × (s ≡ printed mid.report taken) × (taken ++ t ≡ mid.gathered)) → OnErr result (s ≡ mid.report) →
+    (result ≡ Err TooLarge → mid.report.limit < length mid.report.text + length mid.gathered) →
     PutsTo (λ n. then (piece_draft n o.words o.equations o.names p) (pieces_draft o old.pieces n)) old.printing (printing t s) (pieces_draft o new.pieces) result
 piece_puts o p again old new mid t s result b c ok err large =
     let all = λ (n : ℕ). then (piece_draft n o.words o.equations o.names p) (pieces_draft o old.pieces n) in
@@ -174,7 +185,8 @@ piece_puts o p again old new mid t s result b c ok err large =
     (goes_on all (λ n. then (Whole bytes) (left n)) left old.printing new.printing mid (piece_underway o p again old new b)
     (first_of (λ n. Whole bytes) left new.printing mid (λ n. refl) (λ n. pending-next n o.words o.equations o.names new.pieces) c)) ok err large
 
-pub piece_stops : (o : Origin) (p : Piece) (again : Option Span) (old new : Desk) (mid : Printing) (fault : PrintFault) (result : Result Unit PrintFault) (left : ℕ → Draft) → Begun o (λ n. piece_draft n o.words o.equations o.names p) again old new →
+pub piece_stops : (o : Origin) (p : Piece) (again : Option Span) (old new : Desk) (mid : Printing) (fault : PrintFault)
+    (result : Result Unit PrintFault) (left : ℕ → Draft) → Begun o (λ n. piece_draft n o.words o.equations o.names p) again old new →
     Puts (λ n. Whole (copied (made new.printing) again)) new.printing mid (Err fault) → result ≡ Err fault →
     PutsTo (λ n. then (piece_draft n o.words o.equations o.names p) (pieces_draft o old.pieces n)) old.printing mid left result
 piece_stops o p again old new mid fault result left b c e =
@@ -184,15 +196,18 @@ piece_stops o p again old new mid fault result left b c e =
     (stops_later all (λ n. then (Whole bytes) (pieces_draft o new.pieces n)) old.printing new.printing mid.report fault (piece_underway o p again old new b)
     (first_stops (λ n. Whole bytes) (pieces_draft o new.pieces) new.printing mid.report fault c))
 
-pub piece_sound : (o : Origin) (p : Piece) (again : Option Span) (old new last : Desk) (mid : Printing) (result : Result Unit PrintFault) → Begun o (λ n. piece_draft n o.words o.equations o.names p) again old new → IsSoundWith o p old →
+pub piece_sound : (o : Origin) (p : Piece) (again : Option Span) (old new last : Desk) (mid : Printing) (result : Result Unit PrintFault) →
+    Begun o (λ n. piece_draft n o.words o.equations o.names p) again old new → IsSoundWith o p old →
     last.pieces ≡ new.pieces → last.table ≡ new.table → Puts (λ n. Whole (copied (made new.printing) again)) new.printing mid (Ok tt) →
     OnOk result ((taken : List ℕ) × (last.printing.report ≡ printed mid.report taken) × (taken ++ last.printing.gathered ≡ mid.gathered)) → OnOk result (IsSound o last)
 piece_sound o p again old new last mid (Ok done) b sound ps ss c ok =
     let (taken, e, f) = ok in
-    sound_on o p again old new last b sound ps ss (made_flushed mid.gathered last.printing.gathered taken mid.report last.printing.report e f ∙ made_puts (copied (made new.printing) again) new.printing mid c)
+    sound_on o p again old new last b sound ps ss (made_flushed mid.gathered last.printing.gathered taken mid.report last.printing.report e f
+    ∙ made_puts (copied (made new.printing) again) new.printing mid c)
 piece_sound o p again old new last mid (Err fault) b sound ps ss c ok = tt
 
-pub piece_less : (o : Origin) (p : Piece) (again : Option Span) (old new last : Desk) (mid : Printing) (result : Result Unit PrintFault) → Begun o (λ n. piece_draft n o.words o.equations o.names p) again old new →
+pub piece_less : (o : Origin) (p : Piece) (again : Option Span) (old new last : Desk) (mid : Printing) (result : Result Unit PrintFault) →
+    Begun o (λ n. piece_draft n o.words o.equations o.names p) again old new →
     last.pieces ≡ new.pieces → Puts (λ n. Whole (copied (made new.printing) again)) new.printing mid (Ok tt) →
     OnOk result ((taken : List ℕ) × (last.printing.report ≡ printed mid.report taken) × (taken ++ last.printing.gathered ≡ mid.gathered)) → OnOk result (length last.printing.gathered < 4096) →
     length last.printing.report.text ≤ last.printing.report.limit → OnOk result (IsLess old last)
@@ -201,22 +216,34 @@ piece_less o p again old new last mid (Ok done) b ps c ok short within =
     let bytes = copied (made new.printing) again in
     let more = made_flushed mid.gathered last.printing.gathered taken mid.report last.printing.report e f ∙ made_puts bytes new.printing mid c in
     record {
-      work = omega (arith, b.work, ap length ps, ap length more, length-append (made new.printing) bytes, ap length (made_on old.printing new.printing b.out b.gathered b.report), length-append (made old.printing) b.out);
+      work = omega (
+        arith,
+        b.work,
+        ap length ps,
+        ap length more,
+        length-append (made new.printing) bytes,
+        ap length (made_on old.printing new.printing b.out b.gathered b.report),
+        length-append (made old.printing) b.out,
+      );
       short = short;
       within = within;
       limit = ap (λ (r : Bounded). r.limit) e ∙ ap (λ (r : Bounded). r.limit) c.report ∙ ap (λ (r : Bounded). r.limit) b.report;
     }
 piece_less o p again old new last mid (Err fault) b ps c ok short within = tt
 
-pub first_piece : {E : Type 0} (o : Origin) (slot : ℕ) (r : Ref) (result : Result (Option Span) E) (old new : Desk) → slice_get o.names slot ≡ Some r → IfOk result (λ again. OpensSlot o slot again old new) → IfOk result (λ again. BeginsPiece o (First slot) again old new)
+pub first_piece : {E : Type 0} (o : Origin) (slot : ℕ) (r : Ref) (result : Result (Option Span) E) (old new : Desk) → slice_get o.names slot ≡ Some
+    r → IfOk result (λ again. OpensSlot o slot again old new) → IfOk result (λ again. BeginsPiece o (First slot) again old new)
 first_piece o slot r (Ok again) old new e h = begun_first o slot r again old new e (h r e)
 first_piece o slot r (Err fault) old new e h = tt
 
-pub next_piece : {E : Type 0} (o : Origin) (slot : ℕ) (r : Ref) (result : Result (Option Span) E) (old mid new : Desk) → slice_get o.names slot ≡ Some r → mid.printing.gathered ≡ old.printing.gathered ++ codes ", " → mid.printing.report ≡ old.printing.report → mid.pieces ≡ old.pieces →
+pub next_piece : {E : Type 0} (o : Origin) (slot : ℕ) (r : Ref) (result : Result (Option Span) E) (old mid new : Desk) → slice_get o.names slot ≡ Some
+    r → mid.printing.gathered ≡ old.printing.gathered ++ codes ", " → mid.printing.report ≡ old.printing.report → mid.pieces ≡ old.pieces →
     IfOk result (λ again. OpensSlot o slot again mid new) → IfOk result (λ again. BeginsPiece o (Next slot) again old new)
 next_piece o slot r (Ok again) old mid new e f g p h = begun_next o slot r again old mid new e f g p (h r e)
 next_piece o slot r (Err fault) old mid new e f g p h = tt
 
-pub close_piece : {E : Type 0} (o : Origin) (slot from : ℕ) (result : Result (Option Span) E) (old new : Desk) → IsOpen o (made old.printing) (Close slot from) [] → AreKept o old → IfOk result (λ again. Closes slot from again old new) → IfOk result (λ again. BeginsPiece o (Close slot from) again old new)
+pub close_piece : {E : Type 0} (o : Origin) (slot from : ℕ) (result : Result (Option Span) E) (old new : Desk) → IsOpen o (made old.printing)
+    (Close slot from) [] → AreKept o old → IfOk result (λ again. Closes slot from again old new) →
+    IfOk result (λ again. BeginsPiece o (Close slot from) again old new)
 close_piece o slot from (Ok again) old new is_open kept h = begun_close o slot from again old new h is_open kept
 close_piece o slot from (Err fault) old new is_open kept h = tt

@@ -61,7 +61,8 @@ one_longer n a (Front t) p = omega (arith, p, length-append (a ++ codes "(") t, 
 
 draft_on-long : (n : ℕ) (w : Words) (f : Ref → Draft) → ((r : Ref) → IsLong n (f r)) → (r : Ref) (end : Chased) → IsLong (suc n) (draft_on w f r end)
 draft_on-long n w f h r (Found c []) = tt
-draft_on-long n w f h r (Found c (s ∷ rs)) = one_longer n (head_text w c) (then (listed (map f (s ∷ rs))) (Whole (codes ")"))) (then-long n (listed (map f (s ∷ rs))) (Whole (codes ")")) (listed-long n f h (s ∷ rs)) tt)
+draft_on-long n w f h r (Found c (s ∷ rs)) = one_longer n (head_text w c) (then (listed (map f (s ∷ rs))) (Whole (codes ")")))
+    (then-long n (listed (map f (s ∷ rs))) (Whole (codes ")")) (listed-long n f h (s ∷ rs)) tt)
 draft_on-long n w f h r (Missing s) = tt
 draft_on-long n w f h r Round = tt
 
@@ -80,7 +81,8 @@ begins_front (Whole a) (Whole b) p = ([], p ∙ sym (append-nil a))
 begins_front (Whole a) (Front b) p = elim p [ ]
 begins_front (Front a) e p = p
 
-pub ended : (all : ℕ → Draft) → Grows all → ((n : ℕ) → IsLong n (all n)) → (old new : Bounded) (result : Result Unit PrintFault) → length new.text ≤ new.limit → Ended all old new result → (n : ℕ) → old.limit < n → Prints (so_far (all n)) old new result
+pub ended : (all : ℕ → Draft) → Grows all → ((n : ℕ) → IsLong n (all n)) → (old new : Bounded) (result : Result Unit PrintFault) →
+    length new.text ≤ new.limit → Ended all old new result → (n : ℕ) → old.limit < n → Prints (so_far (all n)) old new result
 ended all grows long old new (Ok done) within e n past =
     let (m, t, is, e) = e in
     record {
@@ -120,11 +122,21 @@ ended all grows long old new (Err fault) within s n past = record {
     cut m (Whole u) b l p = subst (λ t. PrintsFront t old new) (ap so_far (whole_is u (all m) b)) p
     cut m (Front u) b l p =
         let taken : length (take p.0 (so_far (all m))) ≡ p.0 = length-take-le p.0 (so_far (all m)) p.1 in
-        let le : p.0 ≤ length u = omega (arith, within, l, past, taken, ap (λ (r : Bounded). length r.text) p.2, ap (λ (r : Bounded). r.limit) p.2, length-append old.text (take p.0 (so_far (all m)))) in
+        let le : p.0 ≤ length u = omega (
+          arith,
+          within,
+          l,
+          past,
+          taken,
+          ap (λ (r : Bounded). length r.text) p.2,
+          ap (λ (r : Bounded). r.limit) p.2,
+          length-append old.text (take p.0 (so_far (all m))),
+        ) in
         (p.0, le, p.2 ∙ ap (printed old) (ap (take p.0) b.1 ∙ take-append-le p.0 u b.0 le))
 
     fronts : (m : ℕ) → (m < n) ⊎ (n ≤ m) → IsLong n (all n) → PrintsFront (so_far (all m)) old new → PrintsFront (so_far (all n)) old new
-    fronts m (inl lt) l p = let (rest, e) = begins_front (all m) (all n) (grows-to all grows m n (omega (arith, lt))) in subst (λ t. PrintsFront t old new) (sym e) (PrintsFront-first (so_far (all m)) rest old new p)
+    fronts m (inl lt) l p = let (rest, e) = begins_front (all m) (all n) (grows-to all grows m n (omega (arith, lt))) in
+        subst (λ t. PrintsFront t old new) (sym e) (PrintsFront-first (so_far (all m)) rest old new p)
     fronts m (inr le) l p = cut m (all n) (grows-to all grows n m le) l p
 
 -- the values of a line, printed one after another
@@ -135,16 +147,20 @@ module _ (w : Words) (k : Map) (ins outs : List Ref) where
   pub values_1 : (p0 p1 : Printing) → Underway (λ n. listed (map (draft n w k) ins)) p0 p1 (λ n. Whole []) → Underway (λ n. values_draft n w k ins outs) p0 p1 (after_inherited w k outs)
   values_1 p0 p1 u = first_of (λ n. listed (map (draft n w k) ins)) (after_inherited w k outs) p0 p1 (drafts-Grow w k ins) (after_inherited-Grows w k outs) u
 
-  pub values_2 : (p0 : Printing) (t v : List ℕ) (r : Bounded) → Underway (λ n. values_draft n w k ins outs) p0 (printing t r) (after_inherited w k outs) → v ≡ t ++ codes ") <" → Underway (λ n. values_draft n w k ins outs) p0 (printing v r) (results_on w k outs)
+  pub values_2 : (p0 : Printing) (t v : List ℕ) (r : Bounded) → Underway (λ n. values_draft n w k ins outs) p0 (printing t r)
+      (after_inherited w k outs) → v ≡ t ++ codes ") <" → Underway (λ n. values_draft n w k ins outs) p0 (printing v r) (results_on w k outs)
   values_2 p0 t v r u e = goes_on Values (after_inherited w k outs) (results_on w k outs) p0 (printing t r) (printing v r) u (adds (codes ") <") t v r (results_on w k outs) e)
 
-  pub values_3 : (p0 p2 p3 : Printing) → Underway (λ n. values_draft n w k ins outs) p0 p2 (results_on w k outs) → Underway (λ n. listed (map (draft n w k) outs)) p2 p3 (λ n. Whole []) → Underway (λ n. values_draft n w k ins outs) p0 p3 after_results
+  pub values_3 : (p0 p2 p3 : Printing) → Underway (λ n. values_draft n w k ins outs) p0 p2 (results_on w k outs) →
+      Underway (λ n. listed (map (draft n w k) outs)) p2 p3 (λ n. Whole []) → Underway (λ n. values_draft n w k ins outs) p0 p3 after_results
   values_3 p0 p2 p3 u v = goes_on Values (results_on w k outs) after_results p0 p2 p3 u (first_of (λ n. listed (map (draft n w k) outs)) after_results p2 p3 (drafts-Grow w k outs) (λ n. refl) v)
 
-  pub values_4 : (p0 : Printing) (t v : List ℕ) (r : Bounded) → Underway (λ n. values_draft n w k ins outs) p0 (printing t r) after_results → v ≡ t ++ codes ">\n" → Underway (λ n. values_draft n w k ins outs) p0 (printing v r) (λ n. Whole [])
+  pub values_4 : (p0 : Printing) (t v : List ℕ) (r : Bounded) → Underway (λ n. values_draft n w k ins outs) p0 (printing t r) after_results →
+      v ≡ t ++ codes ">\n" → Underway (λ n. values_draft n w k ins outs) p0 (printing v r) (λ n. Whole [])
   values_4 p0 t v r u e = goes_on Values after_results (λ n. Whole []) p0 (printing t r) (printing v r) u (adds (codes ">\n") t v r (λ n. Whole []) e)
 
-pub same_values : (w : Words) (k : Map) (ins xs outs ys : List Ref) (old new : Printing) (r : Result Unit PrintFault) → ins ≡ xs → outs ≡ ys → Puts (λ n. values_draft n w k ins outs) old new r → Puts (λ n. values_draft n w k xs ys) old new r
+pub same_values : (w : Words) (k : Map) (ins xs outs ys : List Ref) (old new : Printing) (r : Result Unit PrintFault) → ins ≡ xs → outs ≡ ys →
+    Puts (λ n. values_draft n w k ins outs) old new r → Puts (λ n. values_draft n w k xs ys) old new r
 same_values w k ins xs outs ys old new r e f p = subst (λ zs. Puts (λ n. values_draft n w k xs zs) old new r) f (subst (λ zs. Puts (λ n. values_draft n w k zs outs) old new r) e p)
 
 -- the whole line grows, and a front of it is long

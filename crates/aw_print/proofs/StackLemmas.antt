@@ -1,5 +1,6 @@
 -- Values on a stack.
-use Rattle.std.proofs.Common.{◌≡◌, ℕ, zero, suc, ◌-◌, ◌<◌, ◌≤◌, List, [], ◌∷◌, ◌++◌, map, drop, take, length, codes, Some, Bool, true, false, cond, refl, sym, ap, ◌∙◌, subst, arith, append_assoc, append-nil, length-append}
+use Rattle.std.proofs.Common.{◌≡◌, ℕ, zero, suc, ◌-◌, ◌<◌, ◌≤◌, List, [], ◌∷◌, ◌++◌, map, drop, take, length, codes, Some, Bool, true, false, cond}
+use Rattle.std.proofs.Common.{refl, sym, ap, ◌∙◌, subst, arith, append_assoc, append-nil, length-append}
 use Rattle.std.specs.Prelude.{Option, None, slice_get, slice_range, option_and_then}
 use Rattle.std.proofs.lemmas.Option.{slice_get_within}
 use Rattle.std.proofs.lemmas.List.{drop-append-le, take-append-le, length-drop, take_all}
@@ -32,7 +33,8 @@ use Rattle.aw_print.proofs.GrowingLemmas.{whole_is}
 
 pub pending_push : (n : ℕ) (w : Words) (k : Map) (names : List Ref) (ps : List Piece) (p : Piece) → pending n w k names (ps ++ p ∷ []) ≡ then (piece_draft n w k names p) (pending n w k names ps)
 pending_push n w k names [] p = nothing-then (piece_draft n w k names p) ∙ sym (then-nothing (piece_draft n w k names p))
-pending_push n w k names (q ∷ ps) p = ap (λ d. then d (piece_draft n w k names q)) (pending_push n w k names ps p) ∙ then-assoc (piece_draft n w k names p) (pending n w k names ps) (piece_draft n w k names q)
+pending_push n w k names (q ∷ ps) p = ap (λ d. then d (piece_draft n w k names q)) (pending_push n w k names ps p)
+    ∙ then-assoc (piece_draft n w k names p) (pending n w k names ps) (piece_draft n w k names q)
 
 pub live_push : (names : List Ref) (ps : List Piece) (p : Piece) → AreLive names ps → IsLive names p → AreLive names (ps ++ p ∷ [])
 live_push names [] p a b = (b, tt)
@@ -75,7 +77,8 @@ all_parts m w k names (r ∷ rs) s l e = ap (λ o. then (named_draft m w k o) (f
 -- pieces behind others
 pub pending_append : (n : ℕ) (w : Words) (k : Map) (names : List Ref) (ps qs : List Piece) → pending n w k names (ps ++ qs) ≡ then (pending n w k names qs) (pending n w k names ps)
 pending_append n w k names [] qs = sym (then-nothing (pending n w k names qs))
-pending_append n w k names (p ∷ ps) qs = ap (λ d. then d (piece_draft n w k names p)) (pending_append n w k names ps qs) ∙ then-assoc (pending n w k names qs) (pending n w k names ps) (piece_draft n w k names p)
+pending_append n w k names (p ∷ ps) qs = ap (λ d. then d (piece_draft n w k names p)) (pending_append n w k names ps qs)
+    ∙ then-assoc (pending n w k names qs) (pending n w k names ps) (piece_draft n w k names p)
 
 pub live_append : (names : List Ref) (ps qs : List Piece) → AreLive names ps → AreLive names qs → AreLive names (ps ++ qs)
 live_append names [] qs a b = b
@@ -141,11 +144,13 @@ num_found names (Some (P.Is (T.Con d) parts)) m h rs w e = elim w [ ]
 num_found names (Some (P.Is (T.Num d) parts)) m h rs w e = let f : m ≡ d = w.0 in let l : parts ≡ [] = w.1 in cc
 num_found names (Some (P.Is (T.Text d) parts)) m h rs w e = elim w [ ]
 
-pub text_found : (names : List Ref) (b : Option P.Body) (t : List ℕ) (h : Head) (rs : List Ref) → IsKindOf names b kind.Text → as_text b ≡ Some t → b ≡ Some (P.Is h rs) → Found (T.Text t) [] ≡ Found h rs
+pub text_found : (names : List Ref) (b : Option P.Body) (t : List ℕ) (h : Head) (rs : List Ref) → IsKindOf names b kind.Text → as_text b ≡ Some t →
+    b ≡ Some (P.Is h rs) → Found (T.Text t) [] ≡ Found h rs
 text_found names b t h rs w f e = let (u, p, q) = text_there names b w in let same : u ≡ t = cc in cc
 
 -- where a chase ends
-pub chased_found : (k : Map) (names : List Ref) (slot at : ℕ) (x : Chased) → IsChasedTo k names slot x (answer.Found at) → (h : Head) × (rs : List Ref) × (x ≡ Found h rs) × (body_at k names at ≡ Some (P.Is h rs)) × (at < length names)
+pub chased_found : (k : Map) (names : List Ref) (slot at : ℕ) (x : Chased) → IsChasedTo k names slot x (answer.Found at) → (h : Head)
+    × (rs : List Ref) × (x ≡ Found h rs) × (body_at k names at ≡ Some (P.Is h rs)) × (at < length names)
 chased_found k names slot at (Found h rs) w = let (r, e, f) = w in (h, rs, refl, ap (option_and_then (find k)) e ∙ f, slice_get_within names at r e)
 chased_found k names slot at (Missing r) w = elim w [ ]
 chased_found k names slot at Round w = elim w [ ]
@@ -212,7 +217,8 @@ open_on o old new t p added (Close s from) qs e h a = (
   λ r f. lead-on (begun_draft o new from (qs ++ added)) (begun_draft o old from (qs ++ p ∷ [])) (λ n. draft n o.words o.equations r) (begun_on o old new t p added qs from a.0 e h) (a.1 r f),
 )
 
-pub opens_on : (o : Origin) (old new t : List ℕ) (p : Piece) (added : List Piece) → new ≡ old ++ t → LeadTo (λ n. then (Whole t) (pieces_draft o added n)) (λ n. piece_draft n o.words o.equations o.names p) →
+pub opens_on : (o : Origin) (old new t : List ℕ) (p : Piece) (added : List Piece) → new ≡ old ++ t →
+    LeadTo (λ n. then (Whole t) (pieces_draft o added n)) (λ n. piece_draft n o.words o.equations o.names p) →
     AreOpen o new added → (qs : List Piece) → AreOpen o old (qs ++ p ∷ []) → AreOpen o new (qs ++ added)
 opens_on o old new t p added e h b [] a = b
 opens_on o old new t p added e h b (q ∷ qs) a = (open_on o old new t p added q qs e h a.0, opens_on o old new t p added e h b qs a.1)
@@ -245,7 +251,8 @@ closed_kept o old new slot from e a = record {
 }
 
 -- the last piece, and those below it
-pub popped : (w : Words) (k : Map) (names : List Ref) (all : ℕ → Draft) (old new : Printing) (ps qs : List Piece) (p : Piece) → ps ≡ qs ++ p ∷ [] → Underway all old new (λ n. pending n w k names ps) → Underway all old new (λ n. then (piece_draft n w k names p) (pending n w k names qs))
+pub popped : (w : Words) (k : Map) (names : List Ref) (all : ℕ → Draft) (old new : Printing) (ps qs : List Piece) (p : Piece) → ps ≡ qs ++ p ∷ [] →
+    Underway all old new (λ n. pending n w k names ps) → Underway all old new (λ n. then (piece_draft n w k names p) (pending n w k names qs))
 popped w k names all old new ps qs p e u = record {
   taken = u.taken;
   out = u.out;
@@ -255,11 +262,13 @@ popped w k names all old new ps qs p e u = record {
 }
 
 -- nothing is left on the stack
-pub emptied : (w : Words) (k : Map) (names : List Ref) (all : ℕ → Draft) (old new : Printing) (ps : List Piece) → ps ≡ [] → Underway all old new (λ n. pending n w k names ps) → Underway all old new (λ n. Whole [])
+pub emptied : (w : Words) (k : Map) (names : List Ref) (all : ℕ → Draft) (old new : Printing) (ps : List Piece) → ps ≡ [] → Underway all old new
+    (λ n. pending n w k names ps) → Underway all old new (λ n. Whole [])
 emptied w k names all old new ps e u = subst (λ qs. Underway all old new (λ n. pending n w k names qs)) e u
 
 -- a reference that is not named has no equation
-unnamed_by : (b : Bool) (names : List Ref) (k : Map) (r : Ref) (e : P.Equation) → ref_eq r e.left ≡ b → is_named names e.left ≡ true → is_named names r ≡ false → find k r ≡ None → cond b (Some e.body) (find k r) ≡ None
+unnamed_by : (b : Bool) (names : List Ref) (k : Map) (r : Ref) (e : P.Equation) → ref_eq r e.left ≡ b → is_named names e.left ≡ true →
+    is_named names r ≡ false → find k r ≡ None → cond b (Some e.body) (find k r) ≡ None
 unnamed_by true names k r e p w v f = absurd (both_ways (is_named names r) v (ap (is_named names) (ref_eq-true r e.left p) ∙ w))
 unnamed_by false names k r e p w v f = f
 
@@ -271,7 +280,8 @@ unnamed names (e ∷ k) r w v =
     unnamed_by (ref_eq r e.left) names k r e refl c v (unnamed names k r b v)
 
 -- the text of a reference without an equation
-pub missing_underway : (w : Words) (k : Map) (r : Ref) (old new : List ℕ) (p : Bounded) → find k r ≡ None → new ≡ old ++ (codes "?" ++ ref_text w r) → Underway (λ n. draft n w k r) (printing old p) (printing new p) (λ n. Whole [])
+pub missing_underway : (w : Words) (k : Map) (r : Ref) (old new : List ℕ) (p : Bounded) → find k r ≡ None → new ≡ old ++ (codes "?" ++ ref_text w r) →
+    Underway (λ n. draft n w k r) (printing old p) (printing new p) (λ n. Whole [])
 missing_underway w k r old new p f e =
     let out = codes "?" ++ ref_text w r in
     record {

@@ -79,7 +79,8 @@ module _ (w : Words) (k : Map) where
       (l + m, λ n le. let p = h n (omega (arith, le)) in let q = b n (omega (arith, le)) in λ i. p i ∷ q i)
 
   -- from some depth on the line is that of the values
-  pub line_from : (node : Node) (s : State) (from outs_of : List Ref) (ins outs : List Value) → AllUnfold k from ins → AllUnfold k outs_of outs → (l : ℕ) × ((n : ℕ) → l ≤ n → row_draft n w k node s from outs_of ≡ Whole (line_text w node s ins outs))
+  pub line_from : (node : Node) (s : State) (from outs_of : List Ref) (ins outs : List Value) → AllUnfold k from ins → AllUnfold k outs_of outs →
+      (l : ℕ) × ((n : ℕ) → l ≤ n → row_draft n w k node s from outs_of ≡ Whole (line_text w node s ins outs))
   line_from node s from outs_of ins outs a b =
       let (l, f) = values_from from ins a in
       let (m, g) = values_from outs_of outs b in (

@@ -13,7 +13,8 @@ use Rattle.aw_choice.specs.Events as E
 use Rattle.aw_replay.specs.Telling.{StepsOrNot, SettlesSome, DoesSome}
 
 -- made or not: none of it, or all
-pub some_step : {W : Type 0} (f : Ghosts W) (old new : made.World W f) (e : Move) → StepsOrNot f old new e → (v : World) → Shows f old v → (n : ℕ) × Shows f new (run (plain_of old) v (take n (e ∷ [])))
+pub some_step : {W : Type 0} (f : Ghosts W) (old new : made.World W f) (e : Move) → StepsOrNot f old new e → (v : World) → Shows f old v → (n : ℕ)
+    × Shows f new (run (plain_of old) v (take n (e ∷ [])))
 some_step f old new e h v s = elim (h v s) [ inl S ↦ (0, S) | inr S ↦ (1, S) ]
 
 front_on : (g : Grammar) (n b : ℕ) (v : World) → ((u : World) → run g u (take n (settle_moves b g u)) ≡ settle n g u) → (o : Option ℕ)

@@ -54,7 +54,8 @@ seen roles cons sorts rules =
 abbrev words_with : List Con → List (List ℕ) → List Rule → Words
 words_with cons sorts rules = record { roles = everyone ∷ []; cons = map (λ (c : Con). c.name) cons; sorts = sorts; rules = map (λ (r : Rule). r.name) rules }
 
-words : (roles : List (List ℕ)) (cons : List Con) (sorts : List Sort) (rules : List Rule) → plain_words (everyone ∷ []) cons (all_seated sorts) rules ≡ united_words (plain_words roles cons sorts rules)
+words : (roles : List (List ℕ)) (cons : List Con) (sorts : List Sort) (rules : List Rule) → plain_words (everyone ∷ []) cons (all_seated sorts)
+    rules ≡ united_words (plain_words roles cons sorts rules)
 words roles cons sorts rules = ap (λ names. words_with cons names rules) (names_seen sorts)
 
 -- declarations that are these with all sorts at one role
@@ -77,7 +78,8 @@ module _ (roles : List (List ℕ)) (cons : List Con) (sorts : List Sort) (rules 
       ∙ words roles cons sorts rules
 
   -- they are well formed
-  pub good_united : ∥ IsWellFormed (plain_words roles cons sorts rules) (plain_grammar roles cons sorts rules) ∥₁ → ∥ IsWellFormed (plain_words new_roles new_cons new_sorts new_rules) (plain_grammar new_roles new_cons new_sorts new_rules) ∥₁
+  pub good_united : ∥ IsWellFormed (plain_words roles cons sorts rules) (plain_grammar roles cons sorts rules) ∥₁ →
+      ∥ IsWellFormed (plain_words new_roles new_cons new_sorts new_rules) (plain_grammar new_roles new_cons new_sorts new_rules) ∥₁
   good_united formed =
       let w = plain_words roles cons sorts rules in
       let g = plain_grammar roles cons sorts rules in

@@ -83,7 +83,8 @@ all_some g v es = let (n, q) = all_taken (all_moves g v es) in (n, ap (run g v) 
 
 -- some first moves of one event, after those of the events before it
 pub some_before : (g : Grammar) (v : World) (es : List Event) (i : ℕ) (e : Event) → i < length es → e ≡ get_or es i e → (m : ℕ)
-    → (n : ℕ) × (run g v (take n (all_moves g v (map event_seen es))) ≡ run g (after_events g v (map event_seen (take i es))) (take m (moves_of g (after_events g v (map event_seen (take i es))) (event_seen e))))
+    → (n : ℕ) × (run g v (take n (all_moves g v (map event_seen es))) ≡ run g (after_events g v (map event_seen (take i es)))
+    (take m (moves_of g (after_events g v (map event_seen (take i es))) (event_seen e))))
 some_before g v [] i e l s m = absurd (omega (arith, l))
 some_before g v (x ∷ es) zero e l s m =
     let (n, q) = front (moves_of g v (event_seen x)) (all_moves g (after_event g v (event_seen x)) (map event_seen es)) m in

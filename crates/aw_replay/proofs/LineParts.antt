@@ -15,7 +15,8 @@ use Rattle.aw_msg.specs.declared.message.Message.{Message}
 use Rattle.aw_msg.specs.MessageView.{message_of}
 use Rattle.aw_law_worlds.proofs.Settling.{settle_more}
 
-pub told_delivery : (c a d : G.Grammar) → c ≡ a → a ≡ d → (k : ℕ) (r : V.Reply) (v : V.World) (x : V.Stepped) (n : ℕ) (ms : List Message) → r ≡ x.reply → x.world.messages ≡ map (message_of (grammar_of a)) ms → length v.messages ≡ n
+pub told_delivery : (c a d : G.Grammar) → c ≡ a → a ≡ d → (k : ℕ) (r : V.Reply) (v : V.World) (x : V.Stepped) (n : ℕ) (ms : List Message) →
+    r ≡ x.reply → x.world.messages ≡ map (message_of (grammar_of a)) ms → length v.messages ≡ n
     → deliver_line k r ++ sent_lines (words_of c) n (drop n (map (message_of (grammar_of c)) ms)) ≡ move_lines (words_of d) v (V.Delivers k) x
 told_delivery c a d e1 e2 k r v x n ms er em en =
     let ew : words_of c ≡ words_of d = ap words_of (e1 ∙ e2) in
@@ -23,7 +24,8 @@ told_delivery c a d e1 e2 k r v x n ms er em en =
     let ne : n ≡ length v.messages = sym en in
     λ i. deliver_line k (er i) ++ sent_lines (ew i) (ne i) (drop (ne i) (es i))
 
-pub told_choice : (c a d : G.Grammar) → c ≡ a → a ≡ d → (y : Choice) (r : V.Reply) (v : V.World) (x : V.Stepped) (n : ℕ) (ms : List Message) → r ≡ x.reply → x.world.messages ≡ map (message_of (grammar_of a)) ms → length v.messages ≡ n
+pub told_choice : (c a d : G.Grammar) → c ≡ a → a ≡ d → (y : Choice) (r : V.Reply) (v : V.World) (x : V.Stepped) (n : ℕ) (ms : List Message) →
+    r ≡ x.reply → x.world.messages ≡ map (message_of (grammar_of a)) ms → length v.messages ≡ n
     → answer_line (words_of c) y (answered r) ++ sent_lines (words_of c) n (drop n (map (message_of (grammar_of c)) ms)) ≡ move_lines (words_of d) v (V.Chooses y) x
 told_choice c a d e1 e2 y r v x n ms er em en =
     let ew : words_of c ≡ words_of d = ap words_of (e1 ∙ e2) in

@@ -36,7 +36,8 @@ may_one g same (Deliver message) may kept = tt
 may_one g same Settle may kept = tt
 may_one g same (Lists role) may kept = absurd (cc kept)
 
-pub may_replay : (a one : Accepted) (read : Grammar) → read ≡ a.grammar → grammar_of one.grammar ≡ united (grammar_of a.grammar) → TakesSameChoices (grammar_of a.grammar) → MayReplay Choices (grammar_of read) (grammar_of one.grammar)
+pub may_replay : (a one : Accepted) (read : Grammar) → read ≡ a.grammar → grammar_of one.grammar ≡ united (grammar_of a.grammar) →
+    TakesSameChoices (grammar_of a.grammar) → MayReplay Choices (grammar_of read) (grammar_of one.grammar)
 may_replay a one read is grammar same e may kept =
     subst (λ h. MayCome h e) (sym grammar) (may_one (grammar_of a.grammar) same e (subst (λ (d : Grammar). MayCome (grammar_of d) e) is may) kept)
 

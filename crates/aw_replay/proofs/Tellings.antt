@@ -40,8 +40,11 @@ longer a carried es fs past =
     let w = words_of a.grammar in
     let g = grammar_of a.grammar in
     let v = empty_world g carried in
-    let cut : length (lines_from_empty a carried (es ++ fs)) ≡ length (lines_from_empty a carried es) + length (all_lines w g (after_events g v es) fs) = ap length (lines_more w g v es fs) ∙ length-append (all_lines w g v es) (all_lines w g (after_events g v es) fs) in
-    let whole : length (whole_output a carried (es ++ fs)) ≡ length (lines_from_empty a carried (es ++ fs)) + length (ending w g (after_events g v (es ++ fs))) = length-append (lines_from_empty a carried (es ++ fs)) (ending w g (after_events g v (es ++ fs))) in
+    let cut : length (lines_from_empty a carried (es ++ fs)) ≡ length (lines_from_empty a carried es) + length
+    (all_lines w g (after_events g v es) fs) = ap length (lines_more w g v es fs) ∙ length-append (all_lines w g v es)
+    (all_lines w g (after_events g v es) fs) in
+    let whole : length (whole_output a carried (es ++ fs)) ≡ length (lines_from_empty a carried (es ++ fs)) + length
+    (ending w g (after_events g v (es ++ fs))) = length-append (lines_from_empty a carried (es ++ fs)) (ending w g (after_events g v (es ++ fs))) in
     omega (arith, past, cut, whole)
 
 module _ {W : Type 0} (f : Ghosts W) where
@@ -89,13 +92,18 @@ module _ {W : Type 0} (f : Ghosts W) where
       let w = words_of a.grammar in
       let g = grammar_of a.grammar in
       let v = after_events g (empty_world g carried) es in
-      let here = subst (λ (r : Bounded). r.limit < length r.text + length (event_lines (words_of old.0.accepted.now.grammar) (grammar_of old.0.accepted.now.grammar) v e)) h.told ((prints v h.shows).too_large large) in
-      let past : most < length (lines_from_empty a carried es) + length (event_lines w g v e) = subst (λ (x : Accepted). most < length (lines_from_empty a carried es) + length (event_lines (words_of x.grammar) (grammar_of x.grammar) v e)) h.accepted here in
-      let all : length (lines_from_empty a carried (es ++ e ∷ [])) ≡ length (lines_from_empty a carried es) + length (event_lines w g v e) = sym (ap length (lines_last w g (empty_world g carried) es e)) ∙ length-append (lines_from_empty a carried es) (event_lines w g v e) in
+      let here = subst (λ (r : Bounded). r.limit < length r.text + length (event_lines (words_of old.0.accepted.now.grammar)
+      (grammar_of old.0.accepted.now.grammar) v e)) h.told ((prints v h.shows).too_large large) in
+      let past : most < length (lines_from_empty a carried es) + length (event_lines w g v e) =
+      subst (λ (x : Accepted). most < length (lines_from_empty a carried es) + length (event_lines (words_of x.grammar) (grammar_of x.grammar)
+      v e)) h.accepted here in
+      let all : length (lines_from_empty a carried (es ++ e ∷ [])) ≡ length (lines_from_empty a carried es) + length (event_lines w g v e) =
+      sym (ap length (lines_last w g (empty_world g carried) es e)) ∙ length-append (lines_from_empty a carried es) (event_lines w g v e) in
       omega (arith, past, all)
 
   -- the ending was printed behind all lines
-  ends_told : (r : Underway f) (new : Bounded) → PrintsEnding f r.0 r.1.report new (Ok tt) → (a : Accepted) (carried : Bool) (es : List Event) → HasTold f r a carried es → new ≡ record { text = whole_output a carried es; limit = most }
+  ends_told : (r : Underway f) (new : Bounded) → PrintsEnding f r.0 r.1.report new (Ok tt) → (a : Accepted) (carried : Bool) (es : List Event) →
+      HasTold f r a carried es → new ≡ record { text = whole_output a carried es; limit = most }
   ends_told r new prints a carried es h =
       let g = grammar_of a.grammar in
       let v = after_events g (empty_world g carried) es in
@@ -104,13 +112,17 @@ module _ {W : Type 0} (f : Ghosts W) where
       ∙ ap (λ (x : Accepted). printed (record { text = lines_from_empty a carried es; limit = most }) (ending (words_of x.grammar) (grammar_of x.grammar) v)) h.accepted
 
   -- it was too long there
-  pub ends_past : (r : Underway f) (new : Bounded) (result : Result Unit PrintFault) → PrintsEnding f r.0 r.1.report new result → result ≡ Err TooLarge → (a : Accepted) (carried : Bool) (es : List Event) → HasTold f r a carried es → most < length (whole_output a carried es)
+  pub ends_past : (r : Underway f) (new : Bounded) (result : Result Unit PrintFault) → PrintsEnding f r.0 r.1.report new result →
+      result ≡ Err TooLarge → (a : Accepted) (carried : Bool) (es : List Event) → HasTold f r a carried es → most < length (whole_output a carried es)
   ends_past r new result prints large a carried es h =
       let w = words_of a.grammar in
       let g = grammar_of a.grammar in
       let v = after_events g (empty_world g carried) es in
-      let here = subst (λ (x : Bounded). x.limit < length x.text + length (ending (words_of r.0.accepted.now.grammar) (grammar_of r.0.accepted.now.grammar) v)) h.told ((prints v h.shows).too_large large) in
-      let past : most < length (lines_from_empty a carried es) + length (ending w g v) = subst (λ (x : Accepted). most < length (lines_from_empty a carried es) + length (ending (words_of x.grammar) (grammar_of x.grammar) v)) h.accepted here in
+      let here = subst (λ (x : Bounded). x.limit < length x.text + length (ending (words_of r.0.accepted.now.grammar)
+      (grammar_of r.0.accepted.now.grammar) v)) h.told ((prints v h.shows).too_large large) in
+      let past : most < length (lines_from_empty a carried es) + length (ending w g v) =
+      subst (λ (x : Accepted). most < length (lines_from_empty a carried es) + length
+      (ending (words_of x.grammar) (grammar_of x.grammar) v)) h.accepted here in
       let all : length (whole_output a carried es) ≡ length (lines_from_empty a carried es) + length (ending w g v) = length-append (lines_from_empty a carried es) (ending w g v) in
       omega (arith, past, all)
 

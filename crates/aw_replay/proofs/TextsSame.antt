@@ -6,7 +6,8 @@ use Rattle.aw_term.specs.Names.{Step, Node, Ref}
 use Rattle.aw_term.specs.Rules.{Ground, Value, get}
 use Rattle.aw_term.specs.Configs.{State, Pending, Done, Row, Config}
 use Rattle.aw_term.specs.Choices.{Choice, Start, Develop, Answer, Known, NotHere, Developed, NotItsRule, Arguments, WaitsFor, Mismatch, CircleAt, TooDeep, Taken}
-use Rattle.aw_term.specs.Artifacts.{Words, listed, step_text, steps_text, node_text, slot_text, ref_text, head_text, with_parts, tree_text, trees_texts, value_text, ground_text, state_text, row_text, artifact_text, answer_text}
+use Rattle.aw_term.specs.Artifacts.{Words, listed, step_text, steps_text, node_text, slot_text, ref_text, head_text, with_parts, tree_text, trees_texts}
+use Rattle.aw_term.specs.Artifacts.{value_text, ground_text, state_text, row_text, artifact_text, answer_text}
 use Rattle.aw_term.specs.Runs.{choice_text, answer_line, artifacts}
 use Rattle.aw_replay.specs.United.{united_words}
 use Rattle.aw_replay.proofs.SameMaps.{map_same}

@@ -71,14 +71,16 @@ told_in f kept reader old new result a carried same loads h =
 
 -- ---- one event
 module _ {W : Type 0} (f : Ghosts W) (kept : Kept) where
-  pub kept_told : (old new : Underway f) (e : Event) (result : Result Unit PrintFault) → is_kept kept e ≡ true → OnOk result (TellsMore f old new (event_seen e)) → OnOk result (TellsKept f kept old new e)
+  pub kept_told : (old new : Underway f) (e : Event) (result : Result Unit PrintFault) → is_kept kept e ≡ true →
+      OnOk result (TellsMore f old new (event_seen e)) → OnOk result (TellsKept f kept old new e)
   kept_told old new e (Ok done) stays tells = λ a carried before es h. subst (HasTold f new a carried) (kept_last kept before es e stays) (tells a carried (before ++ kept_of kept es) h)
   kept_told old new e (Err fault) stays tells = tt
 
   pub passed_told : (r : Underway f) (e : Event) → is_kept kept e ≡ false → TellsKept f kept r r e
   passed_told r e goes a carried before es h = subst (HasTold f r a carried) (kept_none kept before es e goes) h
 
-  pub kept_some : (old new : Underway f) (e : Event) (result : Result Unit PrintFault) → is_kept kept e ≡ true → OnErr result (MakesSome f old new (event_seen e)) → OnErr result (MakesSomeKept f kept old new e)
+  pub kept_some : (old new : Underway f) (e : Event) (result : Result Unit PrintFault) → is_kept kept e ≡ true →
+      OnErr result (MakesSome f old new (event_seen e)) → OnErr result (MakesSomeKept f kept old new e)
   kept_some old new e (Ok done) stays some = tt
   kept_some old new e (Err fault) stays some = λ a carried before es h. subst (HasMadeFirst f new.0 a carried) (kept_last kept before es e stays) (some a carried (before ++ kept_of kept es) h)
 
@@ -89,7 +91,8 @@ module _ {W : Type 0} (f : Ghosts W) (kept : Kept) where
   -- so many events were read, and replayed where they are kept
   abbrev pub AreTold : ScheduleReader → Underway f → ScheduleReader → Underway f → Type 0
   AreTold reader old now new =
-      (es : List Event) × AreRead reader es (left now) × ((a : Accepted) (carried : Bool) (before : List P.Event) → HasTold f old a carried before → HasTold f new a carried (before ++ kept_of kept es))
+      (es : List Event) × AreRead reader es (left now) × ((a : Accepted) (carried : Bool) (before : List P.Event) → HasTold f old a carried before →
+      HasTold f new a carried (before ++ kept_of kept es))
 
   pub none_told : (reader : ScheduleReader) (old : Underway f) → AreTold reader old reader old
   none_told reader old = ([], none_read reader, λ a carried before h. subst (HasTold f old a carried) (sym (append-nil before)) h)
@@ -98,7 +101,8 @@ module _ {W : Type 0} (f : Ghosts W) (kept : Kept) where
   pub some_told : (reader now : ScheduleReader) (old mid : Underway f) → AreTold reader old now mid → MakesSomeLeft f kept reader old mid
   some_told reader now old mid told = (told.0, left now, told.1, λ a carried before h. made_all f mid a carried (before ++ kept_of kept told.0) (told.2 a carried before h))
 
-  module _ (reader now later : ScheduleReader) (old mid : Underway f) (told : AreTold reader old now mid) (grammar : now.grammar.now ≡ reader.grammar.now) (typed : now.typed.now ≡ reader.typed.now) where
+  module _ (reader now later : ScheduleReader) (old mid : Underway f) (told : AreTold reader old now mid)
+      (grammar : now.grammar.now ≡ reader.grammar.now) (typed : now.typed.now ≡ reader.typed.now) where
     module _ (found : Option Event) (e : Event) (is : found ≡ Some e) (next : ReadsNext (left now) (Ok found) (left later)) (come : IfSome found (MayCome (grammar_of now.grammar.now)))
         (fits : IfSome found (HasTypes (types_of now.typed.now.types) (grammar_of now.grammar.now))) where
       read_too : AreRead reader (told.0 ++ e ∷ []) (left later)
@@ -146,7 +150,8 @@ module _ {W : Type 0} (f : Ghosts W) (kept : Kept) where
           (longer old.0.accepted.now old.0.loads (kept_of kept told.0) (kept_of kept passed.0) (told.2 old.0.accepted.now old.0.loads [] begun)),
     )
 
-    pub stopped : later.grammar.now ≡ reader.grammar.now → later.typed.now ≡ reader.typed.now → (fault result : ReplayFault) → TellsLeft f kept reader old later new (Err fault) → StopsWith later fault result →
+    pub stopped : later.grammar.now ≡ reader.grammar.now → later.typed.now ≡ reader.typed.now → (fault result : ReplayFault) →
+        TellsLeft f kept reader old later new (Err fault) → StopsWith later fault result →
         TellsOutput old.0.accepted.now old.0.loads kept reader (Err result)
     stopped grammar typed TooLarge TooLarge told passed = whole_past grammar typed told passed
     stopped grammar typed TooLarge (Bad line kind) told passed = told.1.read ∙ ap (with_events (map event_seen told.0)) passed ∙ with_fault (map event_seen told.0) line kind

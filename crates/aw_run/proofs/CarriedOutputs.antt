@@ -68,7 +68,8 @@ breaks-off w u v s g rounds why same is = subst (λ (h : R.Grammar). courier.IsB
 
 -- the role whose reply is none is named
 pub unheard-told : {W : Type 0} (w : wires.Ghosts W) (u v : W) (s : Spec) (g : Grammar) (rounds role : ℕ) (said : Reply) → s.declared ≡ declarations_of g →
-    courier.IsBrokenOff (grammar_of g) w.content w.faults rounds u v (fault.BadReply role) → said ≡ reply_with (NoReplyOf (get [] (words_of g).roles role)) → Replies (CarriesOver rounds (wired w u v) s) said
+    courier.IsBrokenOff (grammar_of g) w.content w.faults rounds u v (fault.BadReply role) →
+    said ≡ reply_with (NoReplyOf (get [] (words_of g).roles role)) → Replies (CarriesOver rounds (wired w u v) s) said
 unheard-told w u v s g rounds role said same is told = (
   NoReplyOf (get [] (words_in s.declared).roles role),
   inr (record { role = role; broken = breaks-off w u v s g rounds (fault.BadReply role) same is; names = refl }),
@@ -87,7 +88,8 @@ net-counts at role old new broken.Net is counts = counts.1
 net-counts at role old new broken.Reply is counts = absurd (cc (is))
 net-counts at role old new broken.NoMemory is counts = absurd (cc (is))
 
-pub carry-rose : {W : Type 0} (w : wires.Ghosts W) (u v : W) (g : R.Grammar) (rounds role : ℕ) → courier.IsBrokenOff g w.content w.faults rounds u v (fault.NetFault role) → Rose (w.faults u) (w.faults v)
+pub carry-rose : {W : Type 0} (w : wires.Ghosts W) (u v : W) (g : R.Grammar) (rounds role : ℕ) → courier.IsBrokenOff g w.content w.faults rounds u v
+    (fault.NetFault role) → Rose (w.faults u) (w.faults v)
 carry-rose w u v g rounds role is = net-counts is.role role (w.faults u) (w.faults v) is.why is.is is.counts
 
 -- and stayed where none did

@@ -45,14 +45,17 @@ positions ss [] all = tt
 positions ss (d ∷ ds) all = (position ss d all.0, positions ss ds all.1)
 
 -- what is told of a grammar is told of what it declares
-told_of_declared : (g : Grammar) (ds : List Triple) (offers : List ℕ) (free : Bool) (text : List ℕ) → TellsChecked ds offers free (words_of g) (grammar_of g) text → TellsChecked ds offers free (words_in (declarations_of g)) (grammar_in (declarations_of g)) text
+told_of_declared : (g : Grammar) (ds : List Triple) (offers : List ℕ) (free : Bool) (text : List ℕ) → TellsChecked ds offers free (words_of g)
+    (grammar_of g) text → TellsChecked ds offers free (words_in (declarations_of g)) (grammar_in (declarations_of g)) text
 told_of_declared g ds offers free text told =
     subst (λ (w : Words). TellsChecked ds offers free w (grammar_in (declarations_of g)) text) (declared_words g)
     (subst (λ (h : P.Grammar). TellsChecked ds offers free (words_of g) h text) (declared_grammar g) told)
 
-pub declared_too : (g : Grammar) (ds : List Triple) (offers : List ℕ) (free : Bool) (output : Output) → WritesChecked ds offers free (words_of g) (grammar_of g) output → WritesChecked ds offers free (words_in (declarations_of g)) (grammar_in (declarations_of g)) output
+pub declared_too : (g : Grammar) (ds : List Triple) (offers : List ℕ) (free : Bool) (output : Output) → WritesChecked ds offers free (words_of g)
+    (grammar_of g) output → WritesChecked ds offers free (words_in (declarations_of g)) (grammar_in (declarations_of g)) output
 declared_too g ds offers free output (text, told, is) = (text, told_of_declared g ds offers free text told, is)
 
 -- it is written
-pub written : (ds : List Triple) (offers : List ℕ) (free : Bool) (w : Words) (g : P.Grammar) (text : List ℕ) → TellsChecked ds offers free w g text → Replies (WritesChecked ds offers free w g) (reply Done text)
+pub written : (ds : List Triple) (offers : List ℕ) (free : Bool) (w : Words) (g : P.Grammar) (text : List ℕ) → TellsChecked ds offers free w g text →
+    Replies (WritesChecked ds offers free w g) (reply Done text)
 written ds offers free w g text told = (Writes text, (text, told, refl), refl)

@@ -16,11 +16,13 @@ use Rattle.aw_front.specs.Fronts.{Nothing}
 use Rattle.aw_front.proofs.FrontOutputs.{refused-of, opens-output, of-past}
 
 -- ---- for the node of a role
-pub serves-refused : (name : List ℕ) (sessions : ℕ) (x : Wired) (input : List ℕ) (said : Reply) → Replies (OfAccepted (λ s. Nothing) input) said → Replies (IsServingOutputOf name sessions x input) said
+pub serves-refused : (name : List ℕ) (sessions : ℕ) (x : Wired) (input : List ℕ) (said : Reply) → Replies (OfAccepted (λ s. Nothing) input) said →
+    Replies (IsServingOutputOf name sessions x input) said
 unfolding IsServingOutputOf
 serves-refused name sessions x input said refused = refused-of (ServesNamed name sessions x) input said refused
 
-pub serves-opened : (name : List ℕ) (sessions : ℕ) (x : Wired) (input : List ℕ) (s : Spec) (said : Reply) → Opens input s → Replies (ServesNamed name sessions x s) said → Replies (IsServingOutputOf name sessions x input) said
+pub serves-opened : (name : List ℕ) (sessions : ℕ) (x : Wired) (input : List ℕ) (s : Spec) (said : Reply) → Opens input s →
+    Replies (ServesNamed name sessions x s) said → Replies (IsServingOutputOf name sessions x input) said
 unfolding IsServingOutputOf
 serves-opened name sessions x input s said opens (output, holds, is) = (output, opens-output (ServesNamed name sessions x) input s output opens holds, is)
 
@@ -29,11 +31,13 @@ unfolding IsServingOutputOf
 served-past name sessions x input past = of-past (ServesNamed name sessions x) input past
 
 -- ---- for its kept node
-pub keeps-refused : (name : List ℕ) (sessions : ℕ) (x : Devices) (input : List ℕ) (said : Reply) → Replies (OfAccepted (λ s. Nothing) input) said → Replies (IsKeepingOutputOf name sessions x input) said
+pub keeps-refused : (name : List ℕ) (sessions : ℕ) (x : Devices) (input : List ℕ) (said : Reply) → Replies (OfAccepted (λ s. Nothing) input) said →
+    Replies (IsKeepingOutputOf name sessions x input) said
 unfolding IsKeepingOutputOf
 keeps-refused name sessions x input said refused = refused-of (KeepsNamed name sessions x) input said refused
 
-pub keeps-opened : (name : List ℕ) (sessions : ℕ) (x : Devices) (input : List ℕ) (s : Spec) (said : Reply) → Opens input s → Replies (KeepsNamed name sessions x s) said → Replies (IsKeepingOutputOf name sessions x input) said
+pub keeps-opened : (name : List ℕ) (sessions : ℕ) (x : Devices) (input : List ℕ) (s : Spec) (said : Reply) → Opens input s →
+    Replies (KeepsNamed name sessions x s) said → Replies (IsKeepingOutputOf name sessions x input) said
 unfolding IsKeepingOutputOf
 keeps-opened name sessions x input s said opens (output, holds, is) = (output, opens-output (KeepsNamed name sessions x) input s output opens holds, is)
 
@@ -56,11 +60,13 @@ carried-past rounds x input past = of-past (CarriesOver rounds x) input past
 
 -- ---- where it came to a stop
 -- a kept role of the specification that an input opens came to a stop
-pub stops-opened : (name : List ℕ) (sessions : ℕ) (x : Devices) (input : List ℕ) (s : Spec) (status : Status) → Opens input s → StopsNamed name sessions x s status → StopsKeeping name sessions x input status
+pub stops-opened : (name : List ℕ) (sessions : ℕ) (x : Devices) (input : List ℕ) (s : Spec) (status : Status) → Opens input s →
+    StopsNamed name sessions x s status → StopsKeeping name sessions x input status
 stops-opened name sessions x input s status opens (inl before) = inl before
 stops-opened name sessions x input s status opens (inr (role, named, stops)) = inr (s, role, record { opens = opens; named = named }, stops)
 
 -- and so did one that is not kept
-pub stops-node : (name : List ℕ) (sessions : ℕ) (x : Wired) (input : List ℕ) (s : Spec) (status : Status) → Opens input s → StopsNodeNamed name sessions x s status → StopsServing name sessions x input status
+pub stops-node : (name : List ℕ) (sessions : ℕ) (x : Wired) (input : List ℕ) (s : Spec) (status : Status) → Opens input s →
+    StopsNodeNamed name sessions x s status → StopsServing name sessions x input status
 stops-node name sessions x input s status opens (inl before) = inl before
 stops-node name sessions x input s status opens (inr (role, named, stops)) = inr (s, role, record { opens = opens; named = named }, stops)

@@ -13,7 +13,8 @@ use Rattle.aw_front.specs.declared.limit.TheConstants.{INPUT_LIMIT}
 use Rattle.aw_front.specs.declared.reply.Reply.{Reply}
 use Rattle.aw_front.specs.declared.reply.Status.TheVariants.{Done, Usage, BadSpec, Circular, BadSchedule as BadSched, TooLarge, TooLong, BadTypes as BadTyped, BadReply}
 use Rattle.aw_run.specs.Devices.{Devices, Wired}
-use Rattle.aw_front.specs.Output.{Output, Writes, PastInputLimit, BadSpecification, BadTypes, IsCircular, UnknownRole, BadSchedule, PastOutputLimit, NoReplyOf, ByFault, ByTypes, IfAccepted, IfTyped, BySpecification, ByInput, OfAccepted}
+use Rattle.aw_front.specs.Output.{Output, Writes, PastInputLimit, BadSpecification, BadTypes, IsCircular, UnknownRole, BadSchedule, PastOutputLimit}
+use Rattle.aw_front.specs.Output.{NoReplyOf, ByFault, ByTypes, IfAccepted, IfTyped, BySpecification, ByInput, OfAccepted}
 use Rattle.aw_front.specs.Replies.{Replies, reply, reply_with}
 use Rattle.aw_run.specs.Serving.{session_lines, role_in, ByNumber, ServesRole, ServesNamed, IsServingOutputOf}
 use Rattle.aw_run.specs.Keeping.{KeepsRole, KeepsNamed, IsKeepingOutputOf}
@@ -41,7 +42,8 @@ by-one : (Q : Output → Type 0) → OfText Q → (w : Words) (P : Output → Ty
 by-one Q f w P alike None a b x y = alike a b x y
 by-one Q f w P alike (Some fault) a b x y = λ written. f b (same-text a b (x ∙ sym y) written)
 
-by-fault : (Q : Output → Type 0) → OfText Q → (w : Words) (P : Output → Type 0) → Leads Q P → (found other : Option Fault) → found ≡ other → (a b : Output) → ByFault w found P a → ByFault w other P b → IsText a → Q b
+by-fault : (Q : Output → Type 0) → OfText Q → (w : Words) (P : Output → Type 0) → Leads Q P → (found other : Option Fault) → found ≡ other →
+    (a b : Output) → ByFault w found P a → ByFault w other P b → IsText a → Q b
 by-fault Q f w P alike found other is a b x y = by-one Q f w P alike found a b x (subst (λ (o : Option Fault). ByFault w o P b) (sym is) y)
 
 alike-accepted : (Q : Output → Type 0) → OfText Q → (s : Spec) (P : Output → Type 0) → Leads Q P → Leads Q (IfAccepted s P)
@@ -59,11 +61,13 @@ alike-match : (Q : Output → Type 0) → OfText Q → (test : Bool) (output : O
 alike-match Q f true output P alike a b x y = λ written. f b (same-text a b (x ∙ sym y) written)
 alike-match Q f false output P alike a b x y = alike a b x y
 
-alike-read : (Q : Output → Type 0) → OfText Q → (makes : Spec → ℕ → Bool → Output → Type 0) → ((s : Spec) (taken : ℕ) (loads : Bool) → Leads Q (makes s taken loads)) → (reading : Reading) → Leads Q (BySpecification makes reading)
+alike-read : (Q : Output → Type 0) → OfText Q → (makes : Spec → ℕ → Bool → Output → Type 0) →
+    ((s : Spec) (taken : ℕ) (loads : Bool) → Leads Q (makes s taken loads)) → (reading : Reading) → Leads Q (BySpecification makes reading)
 alike-read Q f makes alike (Good s taken loads) = alike s taken loads
 alike-read Q f makes alike (Faulty line kind) = λ a b x y written. f b (same-text a b (x ∙ sym y) written)
 
-alike-input : (Q : Output → Type 0) → OfText Q → (makes : Spec → ℕ → Bool → Output → Type 0) → ((s : Spec) (taken : ℕ) (loads : Bool) → Leads Q (makes s taken loads)) → (input : List ℕ) → Leads Q (ByInput makes input)
+alike-input : (Q : Output → Type 0) → OfText Q → (makes : Spec → ℕ → Bool → Output → Type 0) →
+    ((s : Spec) (taken : ℕ) (loads : Bool) → Leads Q (makes s taken loads)) → (input : List ℕ) → Leads Q (ByInput makes input)
 unfolding ByInput
 alike-input Q f makes alike input =
     alike-match Q f (nat_lt INPUT_LIMIT (length input)) PastInputLimit (BySpecification makes (specification (lines_of input))) (alike-read Q f makes alike (specification (lines_of input)))
@@ -77,12 +81,14 @@ alike-of Q f makes alike input =
 alike-served : (name : List ℕ) (sessions : ℕ) (x : Wired) (input : List ℕ) → Alike (IsServingOutputOf name sessions x input)
 unfolding IsServingOutputOf
 alike-served name sessions x input =
-    alike-of IsText (λ b written. written) (ServesNamed name sessions x) (λ s. alike-number (λ role. ServesRole s role sessions x) (λ role a b k l written. (session_lines 1 l.logs, l.writes)) (role_in s name)) input
+    alike-of IsText (λ b written. written) (ServesNamed name sessions x) (λ s. alike-number (λ role. ServesRole s role sessions x)
+    (λ role a b k l written. (session_lines 1 l.logs, l.writes)) (role_in s name)) input
 
 alike-kept : (name : List ℕ) (sessions : ℕ) (x : Devices) (input : List ℕ) → Alike (IsKeepingOutputOf name sessions x input)
 unfolding IsKeepingOutputOf
 alike-kept name sessions x input =
-    alike-of IsText (λ b written. written) (KeepsNamed name sessions x) (λ s. alike-number (λ role. KeepsRole s role sessions x) (λ role a b k l written. (session_lines 1 l.logs, l.writes)) (role_in s name)) input
+    alike-of IsText (λ b written. written) (KeepsNamed name sessions x) (λ s. alike-number (λ role. KeepsRole s role sessions x)
+    (λ role a b k l written. (session_lines 1 l.logs, l.writes)) (role_in s name)) input
 
 -- a text, or the name of a role whose reply was none
 abbrev pub IsHeardOrNot : Output → Type 0

@@ -25,7 +25,9 @@ without-fewer (line ∷ next ∷ more) = omega (arith, without-fewer (next ∷ m
 pub few-lines : (text : List ℕ) → length (lines_of text) ≤ length text + 1
 few-lines text = omega (arith, without-fewer (slice_split (λ b. b == 10) text), length-slice_split (λ b. b == 10) text, count_by-le-length (λ b. b == 10) text)
 
-spec-step : (d : Draft) (read n : ℕ) (lines : List (List ℕ)) (s : Spec) (loads : Bool) (r : LineRead) (more : Draft → Reading) → ((next : Draft) → more next ≡ Good s n loads → n ≤ suc read + length lines) → after_line d (suc read) r more ≡ Good s n loads → n ≤ read + suc (length lines)
+spec-step : (d : Draft) (read n : ℕ) (lines : List (List ℕ)) (s : Spec) (loads : Bool) (r : LineRead) (more : Draft → Reading) →
+    ((next : Draft) → more next ≡ Good s n loads → n ≤ suc read + length lines) → after_line d (suc read) r more ≡ Good s n loads →
+    n ≤ read + suc (length lines)
 spec-step d read n lines s loads (Next next) more rest e = omega (arith, rest next e)
 spec-step d read n lines s loads (Fault kind) more rest e = absurd (cc (e))
 spec-step d read n lines s loads (End asked) more rest e = let h : suc read ≡ n = cc (e) in omega (arith, h)
@@ -42,7 +44,8 @@ event-step : (line : ℕ) (kind : SchedKind) (event : _) (later : Read) → with
 event-step line kind event (Events events) e = absurd (cc (e))
 event-step line kind event (FaultAt l k) e = e
 
-sched-step : (n line : ℕ) (kind : SchedKind) (lines : List (List ℕ)) (r : T.LineRead) (later : Read) → (later ≡ FaultAt line kind → line < suc n + length lines) → in_front n r later ≡ FaultAt line kind → line < n + suc (length lines)
+sched-step : (n line : ℕ) (kind : SchedKind) (lines : List (List ℕ)) (r : T.LineRead) (later : Read) →
+    (later ≡ FaultAt line kind → line < suc n + length lines) → in_front n r later ≡ FaultAt line kind → line < n + suc (length lines)
 sched-step n line kind lines Nothing later rest e = omega (arith, rest e)
 sched-step n line kind lines (Gives event) later rest e = omega (arith, rest (event-step line kind event later e))
 sched-step n line kind lines (T.Faulty k) later rest e = let h : n ≡ line = cc (e) in omega (arith, h)
@@ -53,7 +56,8 @@ schedule-within t d n line kind [] e = absurd (cc (e))
 schedule-within t d n line kind (l ∷ lines) e = sched-step n line kind lines _ (T.read_lines t d (suc n) lines) (schedule-within t d (suc n) line kind lines) e
 
 -- what a specification takes and what stands behind it are all lines
-pub lines-behind : (input schedule : List ℕ) (s : Spec) (n : ℕ) (loads : Bool) → S.specification (lines_of input) ≡ Good s n loads → lines_of schedule ≡ drop n (lines_of input) → n + length (lines_of schedule) ≤ length input + 1
+pub lines-behind : (input schedule : List ℕ) (s : Spec) (n : ℕ) (loads : Bool) → S.specification (lines_of input) ≡ Good s n loads →
+    lines_of schedule ≡ drop n (lines_of input) → n + length (lines_of schedule) ≤ length input + 1
 lines-behind input schedule s n loads good behind =
     let rest : length (lines_of schedule) ≡ length (lines_of input) - n = ap length behind ∙ length-drop n (lines_of input) in
     omega (arith, rest, specification-within (lines_of input) s n loads good, few-lines input)

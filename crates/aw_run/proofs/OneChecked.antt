@@ -20,4 +20,5 @@ joined a a' b b' c c' first second third = λ i. first i ++ (second i ++ third i
 
 pub one-checked : (ds : List Triple) (offers : List ℕ) (free : Bool) (w : Words) (g : Grammar) (a b : List ℕ) → TellsChecked ds offers free w g a → TellsChecked ds offers free w g b → a ≡ b
 one-checked ds offers free w g a b (pairs, roles, waits, accepted, apart, waiting, is) (pairs', roles', waits', accepted', apart', waiting', is') =
-    is ∙ joined pairs pairs' roles roles' waits waits' (one-text w g pairs pairs' accepted accepted') (one-apart ds offers w g roles roles' apart apart') (one-free free w g waits waits' waiting waiting') ∙ sym is'
+    is ∙ joined pairs pairs' roles roles' waits waits' (one-text w g pairs pairs' accepted accepted')
+    (one-apart ds offers w g roles roles' apart apart') (one-free free w g waits waits' waiting waiting') ∙ sym is'

@@ -58,5 +58,6 @@ pub one-output : HasOneOutput
 unfolding IsOutputOf
 one-output job input =
     one-input (makes_of job input)
-    (λ s taken loads. by-types (words_in s.declared) (MakesTyped job s taken loads (drop taken (lines_of input))) (one-made job s taken loads (drop taken (lines_of input))) (type_fault (types_of s.types) (grammar_in s.declared)))
+    (λ s taken loads. by-types (words_in s.declared) (MakesTyped job s taken loads (drop taken (lines_of input)))
+    (one-made job s taken loads (drop taken (lines_of input))) (type_fault (types_of s.types) (grammar_in s.declared)))
     input

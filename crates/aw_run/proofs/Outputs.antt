@@ -24,7 +24,8 @@ use Rattle.aw_front.proofs.Inputs.{by-input-past, by-input-read}
 use Rattle.aw_run.specs.Output.{told, within_limit, by_schedule, Makes, IsOutputOf}
 
 -- a good schedule
-pub schedule-good : (telling : Telling) (s : Spec) (g : Grammar) (before : ℕ) (loads : Bool) (schedule : List (List ℕ)) (events : List Event) (t : Types) → s.declared ≡ declarations_of g → s.types ≡ t → read_lines (types_of t) (declarations_of g) 1 schedule ≡ Events events →
+pub schedule-good : (telling : Telling) (s : Spec) (g : Grammar) (before : ℕ) (loads : Bool) (schedule : List (List ℕ)) (events : List Event)
+    (t : Types) → s.declared ≡ declarations_of g → s.types ≡ t → read_lines (types_of t) (declarations_of g) 1 schedule ≡ Events events →
     by_schedule telling s before loads (read_lines (types_of s.types) s.declared 1 schedule) ≡ within_limit (told telling (words_of g) (grammar_of g) loads events)
 schedule-good telling s g before loads schedule events t same typed good =
     ap (by_schedule telling s before loads) (ap (λ (u : Types). read_lines (types_of u) s.declared 1 schedule) typed ∙ ap (λ (d : Declarations). read_lines (types_of t) d 1 schedule) same ∙ good)
@@ -33,16 +34,19 @@ schedule-good telling s g before loads schedule events t same typed good =
     ∙ ap (λ (h : P.Grammar). within_limit (told telling (words_of g) h loads events)) (sym (declared_grammar g))
 
 -- a faulty one
-pub schedule-bad : (telling : Telling) (s : Spec) (d : Declarations) (before : ℕ) (loads : Bool) (line : ℕ) (kind : SchedKind) (schedule : List (List ℕ)) (t : Types) → s.declared ≡ d → s.types ≡ t → read_lines (types_of t) d 1 schedule ≡ FaultAt line kind →
+pub schedule-bad : (telling : Telling) (s : Spec) (d : Declarations) (before : ℕ) (loads : Bool) (line : ℕ) (kind : SchedKind)
+    (schedule : List (List ℕ)) (t : Types) → s.declared ≡ d → s.types ≡ t → read_lines (types_of t) d 1 schedule ≡ FaultAt line kind →
     reply_with (by_schedule telling s before loads (read_lines (types_of s.types) s.declared 1 schedule)) ≡ reply_with (BadSchedule (at_line (before + line) (schedule_kind kind)))
 schedule-bad telling s d before loads line kind schedule t same typed faulty =
-    ap (λ r. reply_with (by_schedule telling s before loads r)) (ap (λ (u : Types). read_lines (types_of u) s.declared 1 schedule) typed ∙ ap (λ (e : Declarations). read_lines (types_of t) e 1 schedule) same ∙ faulty)
+    ap (λ r. reply_with (by_schedule telling s before loads r)) (ap (λ (u : Types). read_lines (types_of u) s.declared 1 schedule) typed
+    ∙ ap (λ (e : Declarations). read_lines (types_of t) e 1 schedule) same ∙ faulty)
 
 -- what a job makes of the specification of an input
 abbrev pub makes_of : Job → List ℕ → Spec → ℕ → Bool → Output → Type 0
 makes_of job input s taken loads = Makes job s taken loads (drop taken (lines_of input))
 
-pub output-read : (job : Job) (input : List ℕ) (reading : Reading) (output : Output) → length input ≤ INPUT_LIMIT → specification (lines_of input) ≡ reading → BySpecification (makes_of job input) reading output → IsOutputOf job input output
+pub output-read : (job : Job) (input : List ℕ) (reading : Reading) (output : Output) → length input ≤ INPUT_LIMIT →
+    specification (lines_of input) ≡ reading → BySpecification (makes_of job input) reading output → IsOutputOf job input output
 unfolding IsOutputOf
 output-read job input reading output within is holds = by-input-read (makes_of job input) input reading output within is holds
 

@@ -72,18 +72,26 @@ module _ (F : Fact) where
   pub good-schedule : (s : Spec) (g : Grammar) (loads : Bool) (schedule : List (List ℕ)) (events : List E.Event) (t : Types) → s.declared ≡ declarations_of g → s.types ≡ t →
       read_lines (types_of t) (declarations_of g) 1 schedule ≡ Events events → F (types_of t) (words_of g) (grammar_of g) loads events → OfSchedule F s loads schedule
   good-schedule s g loads schedule events t same typed good holds =
-      let read : read_lines (types_of s.types) s.declared 1 schedule ≡ Events events = ap (λ (u : Types). read_lines (types_of u) s.declared 1 schedule) typed ∙ ap (λ (d : Declarations). read_lines (types_of t) d 1 schedule) same ∙ good in
-      let in_grammar : F (types_of t) (words_of g) (grammar_in s.declared) loads events = subst (λ (h : P.Grammar). F (types_of t) (words_of g) h loads events) (declared_grammar g ∙ ap grammar_in (sym same)) holds in
-      let in_words : F (types_of t) (words_in s.declared) (grammar_in s.declared) loads events = subst (λ (w : Words). F (types_of t) w (grammar_in s.declared) loads events) (declared_words g ∙ ap words_in (sym same)) in_grammar in
+      let read : read_lines (types_of s.types) s.declared 1 schedule ≡ Events events =
+      ap (λ (u : Types). read_lines (types_of u) s.declared 1 schedule) typed
+      ∙ ap (λ (d : Declarations). read_lines (types_of t) d 1 schedule) same ∙ good in
+      let in_grammar : F (types_of t) (words_of g) (grammar_in s.declared) loads events =
+      subst (λ (h : P.Grammar). F (types_of t) (words_of g) h loads events) (declared_grammar g ∙ ap grammar_in (sym same)) holds in
+      let in_words : F (types_of t) (words_in s.declared) (grammar_in s.declared) loads events =
+      subst (λ (w : Words). F (types_of t) w (grammar_in s.declared) loads events) (declared_words g ∙ ap words_in (sym same)) in_grammar in
       subst (OfRead F s loads) (sym read) (subst (λ (u : Types). F (types_of u) (words_in s.declared) (grammar_in s.declared) loads events) (sym typed) in_words)
 
-  pub bad-schedule : (s : Spec) (d : Declarations) (loads : Bool) (line : ℕ) (kind : SchedKind) (schedule : List (List ℕ)) (t : Types) → s.declared ≡ d → s.types ≡ t → read_lines (types_of t) d 1 schedule ≡ FaultAt line kind → OfSchedule F s loads schedule
+  pub bad-schedule : (s : Spec) (d : Declarations) (loads : Bool) (line : ℕ) (kind : SchedKind) (schedule : List (List ℕ)) (t : Types) →
+      s.declared ≡ d → s.types ≡ t → read_lines (types_of t) d 1 schedule ≡ FaultAt line kind → OfSchedule F s loads schedule
   bad-schedule s d loads line kind schedule t same typed faulty =
-      let read : read_lines (types_of s.types) s.declared 1 schedule ≡ FaultAt line kind = ap (λ (u : Types). read_lines (types_of u) s.declared 1 schedule) typed ∙ ap (λ (e : Declarations). read_lines (types_of t) e 1 schedule) same ∙ faulty in
+      let read : read_lines (types_of s.types) s.declared 1 schedule ≡ FaultAt line kind =
+      ap (λ (u : Types). read_lines (types_of u) s.declared 1 schedule) typed
+      ∙ ap (λ (e : Declarations). read_lines (types_of t) e 1 schedule) same ∙ faulty in
       subst (OfRead F s loads) (sym read) tt
 
   -- of an input whose lines are this specification
-  pub good-input : (job : Job) (input : List ℕ) (s : Spec) (taken : ℕ) (loads : Bool) (schedule : List (List ℕ)) → specification (lines_of input) ≡ Good s taken loads → schedule ≡ drop taken (lines_of input) →
+  pub good-input : (job : Job) (input : List ℕ) (s : Spec) (taken : ℕ) (loads : Bool) (schedule : List (List ℕ)) →
+      specification (lines_of input) ≡ Good s taken loads → schedule ≡ drop taken (lines_of input) →
       IfTells job (OfSchedule F s loads schedule) → IfTells job (OfEvents F input)
   good-input Check input s taken loads schedule good behind holds = tt
   good-input (Tells telling) input s taken loads schedule good behind holds = subst (OfReading F (lines_of input)) (sym good) (subst (OfSchedule F s loads) behind holds)

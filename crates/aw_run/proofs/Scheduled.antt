@@ -45,16 +45,19 @@ past_limit : (text : List ℕ) → most < length text → within_limit text ≡ 
 past_limit text past = ap (λ b. cond b PastOutputLimit (Writes text)) (lt-ltb most (length text) past)
 
 -- a reader of one grammar that has a whole schedule left has its lines left, read by the same grammar
-pub read_all : (r : ScheduleReader) (types : Types) (g h : Grammar) (text : List ℕ) → left r ≡ schedule_of types (declarations_of g) text → g ≡ h → left r ≡ read_lines types (declarations_of h) 1 (lines_of text)
+pub read_all : (r : ScheduleReader) (types : Types) (g h : Grammar) (text : List ℕ) → left r ≡ schedule_of types (declarations_of g) text → g ≡ h →
+    left r ≡ read_lines types (declarations_of h) 1 (lines_of text)
 read_all r types g h text e same = e ∙ ap (λ (d : Grammar). read_lines types (declarations_of d) 1 (lines_of text)) same
 
 -- an accepted grammar and its types, and a reader that has a whole schedule behind so many lines before it
-module _ (telling : Telling) (a : Accepted) (t : Typed) (before : ℕ) (loads : Bool) (schedule : List (List ℕ)) (r : ScheduleReader) (all : left r ≡ read_lines (types_of t.types) (declarations_of a.grammar) 1 schedule) where
+module _ (telling : Telling) (a : Accepted) (t : Typed) (before : ℕ) (loads : Bool) (schedule : List (List ℕ)) (r : ScheduleReader)
+    (all : left r ≡ read_lines (types_of t.types) (declarations_of a.grammar) 1 schedule) where
   whole : (es : List Event) → AreRead r es (Events []) → read_lines (types_of t.types) (declarations_of a.grammar) 1 schedule ≡ Events (map event_seen es)
   whole es read = sym all ∙ read.read ∙ with_none (map event_seen es)
 
   -- the output of its events
-  pub replied : (es : List Event) → AreRead r es (Events []) → (text : List ℕ) → text ≡ told_of telling a loads es → length text ≤ most → (said : Reply) → said ≡ reply Done text → RepliesTo telling a t before loads schedule said
+  pub replied : (es : List Event) → AreRead r es (Events []) → (text : List ℕ) → text ≡ told_of telling a loads es → length text ≤ most →
+      (said : Reply) → said ≡ reply Done text → RepliesTo telling a t before loads schedule said
   replied es read text is within said e s same typed =
       e ∙ sym (ap reply_with (schedule-good telling s a.grammar before loads schedule (map event_seen es) t.types same typed (whole es read) ∙ ap within_limit (sym is) ∙ within_written text within))
 
@@ -67,11 +70,13 @@ module _ (telling : Telling) (a : Accepted) (t : Typed) (before : ℕ) (loads : 
   pub promised : IsMadeFor (grammar_of a.grammar) t → r.grammar.now ≡ a.grammar → r.typed.now ≡ t → (es : List Event) → AreRead r es (Events []) → KeepsPromises a t loads schedule
   promised made grammar typed es read s declared is =
       let come = subst (λ (g : Grammar). Each (MayCome (grammar_of g)) es) grammar read.come in
-      let fit = subst (λ (g : Grammar). Each (HasTypes (types_of t.types) (grammar_of g)) es) grammar (subst (λ (y : Typed). Each (HasTypes (types_of y.types) (grammar_of r.grammar.now)) es) typed read.typed) in
+      let fit = subst (λ (g : Grammar). Each (HasTypes (types_of t.types) (grammar_of g)) es) grammar
+      (subst (λ (y : Typed). Each (HasTypes (types_of y.types) (grammar_of r.grammar.now)) es) typed read.typed) in
       good-schedule Promises s a.grammar loads schedule (map event_seen es) t.types declared is (whole es read) (promises_hold a (types_of t.types) loads es made.sizes made.none come fit)
 
   -- a faulty line
-  pub refused : (line : ℕ) (kind : SchedKind) → left r ≡ FaultAt line kind → (said : Reply) → said ≡ reply_with (BadSchedule (at_line (before + line) (schedule_kind kind))) → RepliesTo telling a t before loads schedule said
+  pub refused : (line : ℕ) (kind : SchedKind) → left r ≡ FaultAt line kind → (said : Reply) →
+      said ≡ reply_with (BadSchedule (at_line (before + line) (schedule_kind kind))) → RepliesTo telling a t before loads schedule said
   refused line kind faulty said e s same typed = e ∙ sym (schedule-bad telling s (declarations_of a.grammar) before loads line kind schedule t.types same typed (sym all ∙ faulty))
 
   pub refused_promised : (line : ℕ) (kind : SchedKind) → left r ≡ FaultAt line kind → KeepsPromises a t loads schedule

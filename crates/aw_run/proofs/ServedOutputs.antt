@@ -50,7 +50,8 @@ rules-same s g t same typed =
 
 -- sessions that were served are told
 pub serves-role : (x : Wired) (s : Spec) (g : Grammar) (t : Typed) (role sessions : ℕ) (logs : List SessionLog) (text : List ℕ) →
-    s.declared ≡ declarations_of g → s.types ≡ t.types → Serves x.wire.content x.wire.faults x.wire.failed_openings (rules_of g t) role (empty_site true role) x.before x.after logs → length logs ≤ sessions →
+    s.declared ≡ declarations_of g → s.types ≡ t.types → Serves x.wire.content x.wire.faults x.wire.failed_openings (rules_of g t) role
+    (empty_site true role) x.before x.after logs → length logs ≤ sessions →
     (length logs ≡ sessions) ⊎ NoneComes (x.wire.content x.after) → text ≡ session_lines 1 logs → Replies (ServesRole s role sessions x) (reply Done text)
 serves-role x s g t role sessions logs text same typed is most all lines =
     let served : Serves x.wire.content x.wire.faults x.wire.failed_openings (rules_in s) role (empty_site true role) x.before x.after logs =
@@ -96,7 +97,8 @@ stops-role s role sessions x fault.Full stop is ends = subst (λ (z : Stop). Sto
 stops-role s role sessions x fault.NoMemory stop is ends = subst (λ (z : Stop). StopsRole s role sessions x (status_of_stop z)) (sym is) (inl ends)
 
 -- the causes of two of them
-pub net-rose : {W D : Type 0} (w : wires.Ghosts W) (d : disks.Ghosts D) (r : Rules) (role : ℕ) (text : List ℕ) (s : Site) (u v : W) (old new : D) (why : KeptFault) → StopsKept w d r role text s u v old new why → stop_of why ≡ stop.NetFault → Rose (w.failed_openings u) (w.failed_openings v)
+pub net-rose : {W D : Type 0} (w : wires.Ghosts W) (d : disks.Ghosts D) (r : Rules) (role : ℕ) (text : List ℕ) (s : Site) (u v : W) (old new : D)
+    (why : KeptFault) → StopsKept w d r role text s u v old new why → stop_of why ≡ stop.NetFault → Rose (w.failed_openings u) (w.failed_openings v)
 net-rose w d r role text s u v old new fault.NetFault ends is = ends.served.rose
 net-rose w d r role text s u v old new fault.DiskFault ends is = absurd (cc (is))
 net-rose w d r role text s u v old new fault.BadHead ends is = absurd (cc (is))
@@ -104,7 +106,8 @@ net-rose w d r role text s u v old new (fault.BadEvent number) ends is = absurd 
 net-rose w d r role text s u v old new fault.Full ends is = absurd (cc (is))
 net-rose w d r role text s u v old new fault.NoMemory ends is = absurd (cc (is))
 
-pub disk-rose : {W D : Type 0} (w : wires.Ghosts W) (d : disks.Ghosts D) (r : Rules) (role : ℕ) (text : List ℕ) (s : Site) (u v : W) (old new : D) (why : KeptFault) → StopsKept w d r role text s u v old new why → stop_of why ≡ stop.DiskFault → Rose (d.faults old) (d.faults new)
+pub disk-rose : {W D : Type 0} (w : wires.Ghosts W) (d : disks.Ghosts D) (r : Rules) (role : ℕ) (text : List ℕ) (s : Site) (u v : W) (old new : D)
+    (why : KeptFault) → StopsKept w d r role text s u v old new why → stop_of why ≡ stop.DiskFault → Rose (d.faults old) (d.faults new)
 disk-rose w d r role text s u v old new fault.NetFault ends is = absurd (cc (is))
 disk-rose w d r role text s u v old new fault.DiskFault ends is = ends.0
 disk-rose w d r role text s u v old new fault.BadHead ends is = absurd (cc (is))
@@ -134,7 +137,8 @@ pub by-none : (P : ℕ → Output → Type 0) (said : Reply) (s : Spec) (g : Gra
 by-none P said s g name same is told = by-number P said s g name None same is (UnknownRole, refl, told)
 
 -- memory ran out for the lines of a kept role
-pub lines-lost : (x : Devices) (s : Spec) (g : Grammar) (t : Typed) (role sessions : ℕ) (spelled : List ℕ) (logs : List SessionLog) → s.declared ≡ declarations_of g → s.types ≡ t.types → spelled ≡ written s →
+pub lines-lost : (x : Devices) (s : Spec) (g : Grammar) (t : Typed) (role sessions : ℕ) (spelled : List ℕ) (logs : List SessionLog) →
+    s.declared ≡ declarations_of g → s.types ≡ t.types → spelled ≡ written s →
     IsKeptServing x.wire x.disk (rules_of g t) role spelled (empty_site true role) x.wire_before x.wire_after x.disk_before x.disk_after logs →
     length logs ≤ sessions → (length logs ≡ sessions) ⊎ NoneComes (x.wire.content x.wire_after) → StopsRole s role sessions x NoMemory
 lines-lost x s g t role sessions spelled logs same typed spells is most all =

@@ -38,7 +38,8 @@ module _ (F : Fact) (Q : List ℕ → Type 0) (input text : List ℕ) (has : Q t
     abbrev schedule : List (List ℕ)
     schedule = drop taken (lines_of input)
 
-    spelled_events : type_fault (types_of s.types) (grammar_in s.declared) ≡ None → LeastFault (grammar_in s.declared) None → (read : Read) → read_lines (types_of s.types) s.declared 1 schedule ≡ read →
+    spelled_events : type_fault (types_of s.types) (grammar_in s.declared) ≡ None → LeastFault (grammar_in s.declared) None → (read : Read) →
+        read_lines (types_of s.types) s.declared 1 schedule ≡ read →
         Writes text ≡ by_schedule Replayed s taken loads read → OfRead F s loads read → ReplaysWith F input Q
     spelled_events typed sound (Events es) is written holds =
         let all = output_of (words_in s.declared) (grammar_in s.declared) loads es in
@@ -58,12 +59,14 @@ module _ (F : Fact) (Q : List ℕ → Type 0) (input text : List ℕ) (has : Q t
     spelled_fault typed None least told holds = spelled_events typed least (read_lines (types_of s.types) s.declared 1 schedule) refl told holds
     spelled_fault typed (Some fault) least told holds = absurd (cc told)
 
-    spelled_types : (found : Option TypeFault) → type_fault (types_of s.types) (grammar_in s.declared) ≡ found → ByTypes (words_in s.declared) found (IfAccepted s (TellsSchedule Replayed s taken loads schedule)) (Writes text) →
+    spelled_types : (found : Option TypeFault) → type_fault (types_of s.types) (grammar_in s.declared) ≡ found → ByTypes (words_in s.declared) found
+        (IfAccepted s (TellsSchedule Replayed s taken loads schedule)) (Writes text) →
         OfSchedule F s loads schedule → ReplaysWith F input Q
     spelled_types None is told holds = spelled_fault is told.0 told.1 told.2 holds
     spelled_types (Some fault) is told holds = absurd (cc told)
 
-  spelled_reading : (reading : Reading) → specification (lines_of input) ≡ reading → BySpecification (λ s taken loads. Makes (Tells Replayed) s taken loads (drop taken (lines_of input))) reading (Writes text) →
+  spelled_reading : (reading : Reading) → specification (lines_of input) ≡ reading →
+      BySpecification (λ s taken loads. Makes (Tells Replayed) s taken loads (drop taken (lines_of input))) reading (Writes text) →
       OfReading F (lines_of input) reading → ReplaysWith F input Q
   spelled_reading (Good s taken loads) is told holds = spelled_types s taken loads is (type_fault (types_of s.types) (grammar_in s.declared)) refl told holds
   spelled_reading (Faulty line kind) is told holds = absurd (cc told)
@@ -83,7 +86,8 @@ of_input None P R f x = (x.0, f x.0 x.1)
 of_input (Some input) P R f x = f input x
 
 -- a replay that is done and keeps the promises has written the output of the events that its input spells, and each promise holds of these
-pub Says-replayed : (F : Fact) → ((t : Types) (w : Words) (g : Grammar) (loads : Bool) (es : List Event) → Promises t w g loads es → F t w g loads es) → (left : Option (List ℕ)) (said : Reply) (Q : List ℕ → Type 0) →
+pub Says-replayed : (F : Fact) → ((t : Types) (w : Words) (g : Grammar) (loads : Bool) (es : List Event) → Promises t w g loads es →
+    F t w g loads es) → (left : Option (List ℕ)) (said : Reply) (Q : List ℕ → Type 0) →
     ForInput left (λ input. RepliesKeeping (Tells Replayed) input said) → said.status ≡ Done → Q said.text → ForInput left (λ input. ReplaysWith F input Q)
 Says-replayed F one left said Q kept done text_has =
     of_input left (λ input. WritesWith F (Tells Replayed) input Q) (λ input. ReplaysWith F input Q) (spelled F Q) (Says-kept F one left Replayed said Q kept done text_has)

@@ -6,7 +6,8 @@ use Rattle.aw_run.specs.Replies.{IsDoneOrStopped, IsGood, uses_disk, uses_wire}
 use Rattle.aw_run.specs.Statuses.{IsReply, IsStop, IsRefusal, IsJournalStop, status_of_stop}
 use Rattle.aw_run.specs.Words.{command_of}
 use Rattle.aw_front.specs.declared.reply.Status.{Status}
-use Rattle.aw_front.specs.declared.reply.Status.TheVariants.{Done, Usage, BadSpec, Circular, BadSchedule, TooLarge, ReadFault, WriteFault, NetFault, NoMemory, TooLong, BadTypes, DiskFault, BadJournal, JournalFull, BadReply}
+use Rattle.aw_front.specs.declared.reply.Status.TheVariants.{Done, Usage, BadSpec, Circular, BadSchedule, TooLarge, ReadFault, WriteFault, NetFault}
+use Rattle.aw_front.specs.declared.reply.Status.TheVariants.{NoMemory, TooLong, BadTypes, DiskFault, BadJournal, JournalFull, BadReply}
 use Rattle.aw_run.specs.declared.reply.Stop.{Stop}
 use Rattle.aw_run.specs.declared.reply.Stop.TheVariants as stop
 
@@ -57,7 +58,8 @@ pub refused-told : {A : Type 0} (said told : Status) → (told ≡ said) ⊎ (to
 refused-told said told (inl is) left refusal = left (subst IsRefusal is refusal)
 refused-told said told (inr failed) left refusal = let none : IsRefusal WriteFault = subst IsRefusal failed refusal in absurd none
 
-stopped-so : (words : List (List ℕ)) (s : Stop) → (s ≡ stop.NetFault → uses_wire (command_of words) ≡ true) → (IsJournalStop (status_of_stop s) → uses_disk (command_of words) ≡ true) → IsDoneOrStopped (command_of words) (status_of_stop s)
+stopped-so : (words : List (List ℕ)) (s : Stop) → (s ≡ stop.NetFault → uses_wire (command_of words) ≡ true) →
+    (IsJournalStop (status_of_stop s) → uses_disk (command_of words) ≡ true) → IsDoneOrStopped (command_of words) (status_of_stop s)
 stopped-so words stop.ReadFault wired disked = inr (inr (inl refl))
 stopped-so words stop.NetFault wired disked = inr (inr (inr (inr (inl (refl, wired refl)))))
 stopped-so words stop.DiskFault wired disked = inr (inr (inr (inr (inr (inl (tt, disked tt))))))
@@ -67,6 +69,7 @@ stopped-so words stop.NoMemory wired disked = inr (inl refl)
 
 -- a run that was stopped was stopped by one of these
 pub stop-complete : (left : Option (List ℕ)) (words : List (List ℕ)) (devices : Devices) (s : Stop) (told : Status) → told ≡ status_of_stop s →
-    (s ≡ stop.NetFault → uses_wire (command_of words) ≡ true) → (IsJournalStop (status_of_stop s) → uses_disk (command_of words) ≡ true) → IfSome left (λ input. IsGood words input devices → IsDoneOrStopped (command_of words) told)
+    (s ≡ stop.NetFault → uses_wire (command_of words) ≡ true) → (IsJournalStop (status_of_stop s) → uses_disk (command_of words) ≡ true) →
+    IfSome left (λ input. IsGood words input devices → IsDoneOrStopped (command_of words) told)
 stop-complete None words devices s told is wired disked = tt
 stop-complete (Some input) words devices s told is wired disked = λ good. subst (IsDoneOrStopped (command_of words)) (sym is) (stopped-so words s wired disked)

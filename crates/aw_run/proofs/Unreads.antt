@@ -38,23 +38,29 @@ past-limit P holds (Some input) (Some rest) some =
     let more : INPUT_LIMIT < length input = longer INPUT_LIMIT input some.0 rest same some.1 in
     (PastInputLimit, holds input more, refl)
 
-unread-as : (P : List ℕ → Output → Type 0) → ((input : List ℕ) → INPUT_LIMIT < length input → P input PastInputLimit) → (error : ReadError) (result : Result Reply Stop) (old new : Option (List ℕ)) → result ≡ unread_gives error →
+unread-as : (P : List ℕ → Output → Type 0) → ((input : List ℕ) → INPUT_LIMIT < length input → P input PastInputLimit) →
+    (error : ReadError) (result : Result Reply Stop) (old new : Option (List ℕ)) → result ≡ unread_gives error →
     (error ≡ fault.TooLong → GivesSome old new (λ bytes. INPUT_LIMIT < length bytes)) → IfOk result (λ said. ForInput old (λ input. Replies (P input) said))
 unread-as P holds fault.TooLong result old new is past = rw is (past-limit P holds old new (past refl))
 unread-as P holds fault.ReadFault result old new is past = rw is tt
 unread-as P holds fault.NoMemory result old new is past = rw is tt
 
 -- and that is not done
-not-done : (job : Job) (left : Option (List ℕ)) → ForInput left (λ input. Replies (IsOutputOf job input) (reply_with PastInputLimit)) → ForInput left (λ input. RepliesKeeping job input (reply_with PastInputLimit))
+not-done : (job : Job) (left : Option (List ℕ)) → ForInput left (λ input. Replies (IsOutputOf job input) (reply_with PastInputLimit)) →
+    ForInput left (λ input. RepliesKeeping job input (reply_with PastInputLimit))
 not-done job None is = (is.0, (is.1, λ done. absurd (cc (done))))
 not-done job (Some input) is = (is, λ done. absurd (cc (done)))
 
-pub unread-kept : (error : ReadError) (result : Result Reply Stop) (old new : Option (List ℕ)) (job : Job) → result ≡ unread_gives error → (error ≡ fault.TooLong → GivesSome old new (λ bytes. INPUT_LIMIT < length bytes)) → IfOk result (λ said. ForInput old (λ input. RepliesKeeping job input said))
+pub unread-kept : (error : ReadError) (result : Result Reply Stop) (old new : Option (List ℕ)) (job : Job) → result ≡ unread_gives error →
+    (error ≡ fault.TooLong → GivesSome old new (λ bytes. INPUT_LIMIT < length bytes)) →
+    IfOk result (λ said. ForInput old (λ input. RepliesKeeping job input said))
 unread-kept fault.TooLong result old new job is past = rw is (not-done job old (past-limit (IsOutputOf job) (output-past job) old new (past refl)))
 unread-kept fault.ReadFault result old new job is past = rw is tt
 unread-kept fault.NoMemory result old new job is past = rw is tt
 
-pub unread-reply : (error : ReadError) (result : Result Reply Stop) (old new : Option (List ℕ)) (job : Job) → result ≡ unread_gives error → (error ≡ fault.TooLong → GivesSome old new (λ bytes. INPUT_LIMIT < length bytes)) → IfOk result (λ said. ForInput old (λ input. Replies (IsOutputOf job input) said))
+pub unread-reply : (error : ReadError) (result : Result Reply Stop) (old new : Option (List ℕ)) (job : Job) → result ≡ unread_gives error →
+    (error ≡ fault.TooLong → GivesSome old new (λ bytes. INPUT_LIMIT < length bytes)) →
+    IfOk result (λ said. ForInput old (λ input. Replies (IsOutputOf job input) said))
 unread-reply error result old new job = unread-as (IsOutputOf job) (output-past job) error result old new
 
 -- the same of a node, which no session had yet
@@ -78,7 +84,8 @@ for-each None P holds = ([], holds [])
 for-each (Some input) P holds = holds input
 
 -- a source that was not read stops a kept node before its devices are touched
-pub unread-stops : (error : ReadError) (result : Result Reply Stop) (old : Option (List ℕ)) (name : List ℕ) (sessions : ℕ) (x : Devices) → x.wire_after ≡ x.wire_before → x.disk_after ≡ x.disk_before → result ≡ unread_gives error →
+pub unread-stops : (error : ReadError) (result : Result Reply Stop) (old : Option (List ℕ)) (name : List ℕ) (sessions : ℕ) (x : Devices) →
+    x.wire_after ≡ x.wire_before → x.disk_after ≡ x.disk_before → result ≡ unread_gives error →
     IfErr result (λ stop. ForInput old (λ input. StopsKeeping name sessions x input (status_of_stop stop)))
 unread-stops fault.TooLong result old name sessions x wire disk is = rw is tt
 unread-stops fault.ReadFault result old name sessions x wire disk is = rw is (for-each old _ (λ input. inl (record { why = inl refl; same_wire = wire; same_disk = disk })))

@@ -1,5 +1,6 @@
 -- Arguments with their names looked up are like the terms that are written.
-use Rattle.std.proofs.Common.{◌≡◌, ℕ, zero, suc, ◌+◌, ◌≤◌, ◌<◌, refl, sym, ap, ◌∙◌, subst, Bool, true, false, ◌&&◌, ◌||◌, List, [], ◌∷◌, map, length, max, Option, Some, None, is_some, option_map, option_and_then, slice_get, arith, nat_lt, nat_le}
+use Rattle.std.proofs.Common.{◌≡◌, ℕ, zero, suc, ◌+◌, ◌≤◌, ◌<◌, refl, sym, ap, ◌∙◌, subst, Bool, true, false, ◌&&◌, ◌||◌, List, [], ◌∷◌, map, length}
+use Rattle.std.proofs.Common.{max, Option, Some, None, is_some, option_map, option_and_then, slice_get, arith, nat_lt, nat_le}
 use Rattle.std.proofs.Math.Bool.{and-true}
 use Rattle.std.proofs.lemmas.Bool.{and_parts, le-leb}
 use Rattle.std.proofs.lemmas.Bool.Decides.{nat_tests}
@@ -47,7 +48,8 @@ head_law cons x i n e =
     arity_at cons i n (slice_get cons i) refl (found_below cons i below)
     ∙ ap (λ o. has_arity n (option_and_then (λ k. slice_get cons k) o)) (e ∙ sym (number_is_place (names_of cons) x))
 
-word_alike : (cons : List declared.Con) (x : List ℕ) (g : Ground) (found : Option ℕ) → found ≡ number_named (names_of cons) x → option_map (λ c. let h : Ground = Made (Con c) Nil in h) found ≡ Some g → Alike cons (Word x) g
+word_alike : (cons : List declared.Con) (x : List ℕ) (g : Ground) (found : Option ℕ) → found ≡ number_named (names_of cons) x →
+    option_map (λ c. let h : Ground = Made (Con c) Nil in h) found ≡ Some g → Alike cons (Word x) g
 word_alike cons x g None e h = cc
 word_alike cons x g (Some c) e h =
     let same : Made (Con c) Nil ≡ g = cc in

@@ -35,7 +35,8 @@ word_ends [] h = tt
 word_ends (b ∷ bs) h = ap is_word_byte h
 
 -- The tokens are those of the two words, and then those of the rest.
-choice_lexes : (w rest : List ℕ) (ts : List Token) → node_name w ≡ true → EndsAtSpace rest → tokens_of rest ≡ Ok ts → Lexes (codes "choose " ++ (w ++ rest)) (Name (codes "choose") ∷ Node w ∷ lexemes rest ts)
+choice_lexes : (w rest : List ℕ) (ts : List Token) → node_name w ≡ true → EndsAtSpace rest → tokens_of rest ≡ Ok ts →
+    Lexes (codes "choose " ++ (w ++ rest)) (Name (codes "choose") ∷ Node w ∷ lexemes rest ts)
 choice_lexes w rest ts h e k =
     lexes_name (codes "choose") (32 ∷ (w ++ rest)) (Node w ∷ lexemes rest ts) refl refl
     (lexes_blank (w ++ rest) (Node w ∷ lexemes rest ts) (lexes_node w rest (lexemes rest ts) h (word_ends rest e) (lexes_tokens rest ts k)))
@@ -62,7 +63,8 @@ given_kind : (t : Types) (d : Declarations) (line : Line) (e : Event) (kind : Op
 given_kind t d line e None h = refl
 given_kind t d line e (Some kind) h = cc
 
-given_choice : (t : Types) (d : Declarations) (n rule : List ℕ) (args : List Written) (e : Event) → by_kind t d (ChooseLine n rule args) (line_kind d (ChooseLine n rule args)) ≡ Gives e → node_name n ≡ true
+given_choice : (t : Types) (d : Declarations) (n rule : List ℕ) (args : List Written) (e : Event) → by_kind t d (ChooseLine n rule args)
+    (line_kind d (ChooseLine n rule args)) ≡ Gives e → node_name n ≡ true
 given_choice t d n rule args e h =
     let w = words_in d in
     let g = grammar_in d in
@@ -85,7 +87,8 @@ cut_choice_gives t d line w rest ts e cut k h =
     let ls = lexemes rest ts in
     cut_choice t d line w rest ts cut (given_line t d w ls e (choice_at w ls) refl h) k ∙ h
 
-pub cut_choice_reads : (t : Types) (d : Declarations) (line w rest : List ℕ) (found tokens : List Token) (read : LineRead) (o : Option GivenEvent) → IsCutChoice line w rest → tokens_of rest ≡ Ok found → tokens ≡ found
+pub cut_choice_reads : (t : Types) (d : Declarations) (line w rest : List ℕ) (found tokens : List Token) (read : LineRead) (o : Option GivenEvent) →
+    IsCutChoice line w rest → tokens_of rest ≡ Ok found → tokens ≡ found
     → by_form t d (choice_at w (lexemes rest tokens)) ≡ read → ReadsLine read (Ok o) → IfSome o (λ e. read_line t d line ≡ Gives (event_seen e))
 cut_choice_reads t d line w rest found tokens read None cut k e f h = tt
 cut_choice_reads t d line w rest found tokens read (Some event) cut k e f h =

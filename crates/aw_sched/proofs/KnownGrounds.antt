@@ -1,5 +1,6 @@
 -- Arguments with their names looked up, by their parts.
-use Rattle.std.proofs.Common.{◌≡◌, ℕ, suc, ◌+◌, ◌≤◌, ◌<◌, ◌⊎◌, inl, inr, refl, sym, ap, ◌∙◌, Bool, true, false, ◌||◌, not, List, [], ◌∷◌, map, length, Option, Some, None, is_some, option_map, option_and_then, arith, nat_lt}
+use Rattle.std.proofs.Common.{◌≡◌, ℕ, suc, ◌+◌, ◌≤◌, ◌<◌, ◌⊎◌, inl, inr, refl, sym, ap, ◌∙◌, Bool, true, false, ◌||◌, not, List, [], ◌∷◌, map, length}
+use Rattle.std.proofs.Common.{Option, Some, None, is_some, option_map, option_and_then, arith, nat_lt}
 use Rattle.std.specs.Prelude.{Result, Ok, Err, is_none, IsErrAnd, MatchOption}
 use Rattle.std.proofs.lemmas.Bool.{le-ltb}
 use Rattle.std.proofs.lemmas.Bool.Decides.{nat_tests}
@@ -20,7 +21,8 @@ use Rattle.aw_sched.specs.Grounds.{known_ground, known_parts, known_grounds, Fin
 use Rattle.aw_sched.specs.declared.fault.LineFault.{LineFault}
 use Rattle.aw_sched.specs.declared.fault.LineFault.TheVariants.{Bad, NoMemory}
 
-joined : (first : Option R.Ground) (more : Option (List R.Ground)) → option_and_then (λ g. option_map (λ gs. More g gs) (option_map join more)) first ≡ option_map join (option_and_then (λ g. option_map (λ gs. g ∷ gs) more) first)
+joined : (first : Option R.Ground) (more : Option (List R.Ground)) → option_and_then (λ g. option_map (λ gs. More g gs) (option_map join more))
+    first ≡ option_map join (option_and_then (λ g. option_map (λ gs. g ∷ gs) more) first)
 joined None more = refl
 joined (Some g) None = refl
 joined (Some g) (Some gs) = refl

@@ -1,5 +1,6 @@
 -- Looking names up finds just the arguments of which each name is that of a constructor.
-use Rattle.std.proofs.Common.{◌≡◌, ℕ, suc, refl, sym, ap, ◌∙◌, Bool, true, false, ◌&&◌, ◌||◌, not, cond, List, [], ◌∷◌, ◌++◌, map, length, Option, Some, None, is_some, option_map, option_and_then, arith, nat_lt}
+use Rattle.std.proofs.Common.{◌≡◌, ℕ, suc, refl, sym, ap, ◌∙◌, Bool, true, false, ◌&&◌, ◌||◌, not, cond, List, [], ◌∷◌, ◌++◌, map, length, Option, Some}
+use Rattle.std.proofs.Common.{None, is_some, option_map, option_and_then, arith, nat_lt}
 use Rattle.std.proofs.lemmas.Bool.{lt-ltb, le-ltb}
 use Rattle.std.proofs.lemmas.Option.{cond_some}
 use Rattle.aw_name_index.specs.Places.{place_of, number_of, or_else}
@@ -61,9 +62,11 @@ mutual
       ap (option_map (λ c. let g : Ground = Made (Con c) Nil in g)) (sym (number_is_place names x)) ∙ word_law x (place_of x names)
   known_is names (Apply x ts) =
       ap (λ o. option_and_then (λ c. option_map (λ ps. let g : Ground = Made (Con c) ps in g) o) (number_named names x)) (parts_known names ts)
-      ∙ ap (λ o. option_and_then (λ c. option_map (λ ps. let g : Ground = Made (Con c) ps in g) (cond (fine_parts names ts) (Some (binds filler (resolved_parts names ts))) None)) o) (sym (number_is_place names x))
+      ∙ ap (λ o. option_and_then (λ c. option_map (λ ps. let g : Ground = Made (Con c) ps in g)
+      (cond (fine_parts names ts) (Some (binds filler (resolved_parts names ts))) None)) o) (sym (number_is_place names x))
       ∙ apply_law (length names) (parts_are_known names ts) (no_leaves (all_leaves (resolved_parts names ts))) (binds filler (resolved_parts names ts)) (place_of x names)
-      ∙ ap (λ b. cond ((b && parts_are_known names ts) && no_leaves (all_leaves (resolved_parts names ts))) (Some (Made (Con (number_of x names)) (binds filler (resolved_parts names ts)))) None) (stands_is_placed x names)
+      ∙ ap (λ b. cond ((b && parts_are_known names ts) && no_leaves (all_leaves (resolved_parts names ts)))
+      (Some (Made (Con (number_of x names)) (binds filler (resolved_parts names ts)))) None) (stands_is_placed x names)
   known_is names (Literal h) = refl
 
   parts_known : (names : List (List ℕ)) (ts : Writtens) → known_parts names ts ≡ cond (fine_parts names ts) (Some (binds filler (resolved_parts names ts))) None
@@ -71,7 +74,8 @@ mutual
   parts_known names (Then t ts) =
       ap (λ o. option_and_then (λ g. option_map (λ gs. More g gs) (known_parts names ts)) o) (known_is names t)
       ∙ ap (λ o. option_and_then (λ g. option_map (λ gs. More g gs) o) (cond (fine names t) (Some (ground_named names t)) None)) (parts_known names ts)
-      ∙ two_law More (is_known names t) (parts_are_known names ts) (no_leaves (leaves (resolved names t))) (no_leaves (all_leaves (resolved_parts names ts))) (ground_named names t) (binds filler (resolved_parts names ts))
+      ∙ two_law More (is_known names t) (parts_are_known names ts) (no_leaves (leaves (resolved names t)))
+      (no_leaves (all_leaves (resolved_parts names ts))) (ground_named names t) (binds filler (resolved_parts names ts))
       ∙ ap (λ b. cond ((is_known names t && parts_are_known names ts) && b) (Some (More (ground_named names t) (binds filler (resolved_parts names ts)))) None)
       (sym (none_of_two (leaves (resolved names t)) (all_leaves (resolved_parts names ts))))
 
@@ -83,7 +87,8 @@ all_known_is names [] = refl
 all_known_is names (t ∷ ts) =
     ap (λ o. option_and_then (λ g. option_map (λ gs. g ∷ gs) (known_grounds names ts)) o) (known_is names t)
     ∙ ap (λ o. option_and_then (λ g. option_map (λ gs. g ∷ gs) o) (cond (fine names t) (Some (ground_named names t)) None)) (all_known_is names ts)
-    ∙ two_law (λ g gs. g ∷ gs) (is_known names t) (all_known names ts) (no_leaves (leaves (resolved names t))) (no_leaves (leaves_of (all_resolved names ts))) (ground_named names t) (map (ground_named names) ts)
+    ∙ two_law (λ g gs. g ∷ gs) (is_known names t) (all_known names ts) (no_leaves (leaves (resolved names t)))
+    (no_leaves (leaves_of (all_resolved names ts))) (ground_named names t) (map (ground_named names) ts)
     ∙ ap (λ b. cond ((is_known names t && all_known names ts) && b) (Some (map (ground_named names) (t ∷ ts))) None)
     (sym (none_of_two (leaves (resolved names t)) (leaves_of (all_resolved names ts))))
 

@@ -41,7 +41,8 @@ next_is a k rest e = ap (λ b. cond b (Some k) (first_told rest)) e
 
 -- a start
 pub start_unknown : (g : Grammar) (sort : List ℕ) (case : ℕ) → None ≡ number_named (words_of g).sorts sort → line_kind (declarations_of g) (StartLine sort case) ≡ Some Unknown
-start_unknown g sort case e = first_is (not (stands sort (words_of g).sorts)) Unknown ((not (is_start (slice_get (grammar_of g).sorts (number_of sort (words_of g).sorts))), NotStart) ∷ []) (ap not (unnamed (words_of g).sorts sort e))
+start_unknown g sort case e = first_is (not (stands sort (words_of g).sorts)) Unknown
+    ((not (is_start (slice_get (grammar_of g).sorts (number_of sort (words_of g).sorts))), NotStart) ∷ []) (ap not (unnamed (words_of g).sorts sort e))
 
 starts : (g : Grammar) (sort : List ℕ) (i : ℕ) (b : Bool) → Some i ≡ number_named (words_of g).sorts sort → is_start (slice_get (grammar_of g).sorts i) ≡ b
     → is_start (slice_get (grammar_of g).sorts (number_of sort (words_of g).sorts)) ≡ b
@@ -49,7 +50,8 @@ starts g sort i b e h = ap (λ k. is_start (slice_get (grammar_of g).sorts k)) (
 
 declared_start : (g : Grammar) (sort : List ℕ) (case i : ℕ) → Some i ≡ number_named (words_of g).sorts sort
     → line_kind (declarations_of g) (StartLine sort case) ≡ first_told ((not (is_start (slice_get (grammar_of g).sorts (number_of sort (words_of g).sorts))), NotStart) ∷ [])
-declared_start g sort case i e = next_is (not (stands sort (words_of g).sorts)) Unknown ((not (is_start (slice_get (grammar_of g).sorts (number_of sort (words_of g).sorts))), NotStart) ∷ []) (ap not (named_stands (words_of g).sorts sort i e))
+declared_start g sort case i e = next_is (not (stands sort (words_of g).sorts)) Unknown
+    ((not (is_start (slice_get (grammar_of g).sorts (number_of sort (words_of g).sorts))), NotStart) ∷ []) (ap not (named_stands (words_of g).sorts sort i e))
 
 pub start_good : (g : Grammar) (sort : List ℕ) (case i : ℕ) → Some i ≡ number_named (words_of g).sorts sort → is_start (slice_get (grammar_of g).sorts i) ≡ true
     → (line_kind (declarations_of g) (StartLine sort case) ≡ None) × (event_of (declarations_of g) (StartLine sort case) ≡ P.Chooses (Start i case))

@@ -47,7 +47,8 @@ steps_are_steps w (s ∷ steps) names each =
     ∙ ap (λ b. b && list_all is_step (map (step_parts w) steps)) (child_test s.child each.0.low each.0.high)
     ∙ steps_are_steps w steps names each.1
 
-pub node_has_spelling : (w : Words) (n : Node) → Each (λ n. is_name n ≡ true) w.sorts → Each (λ n. is_name n ≡ true) w.rules → n.start < length w.sorts → n.case < 2 ^ 64 → Each (IsNamedStep w) n.steps → has_spelling (node_parts w n) ≡ true
+pub node_has_spelling : (w : Words) (n : Node) → Each (λ n. is_name n ≡ true) w.sorts → Each (λ n. is_name n ≡ true) w.rules →
+    n.start < length w.sorts → n.case < 2 ^ 64 → Each (IsNamedStep w) n.steps → has_spelling (node_parts w n) ≡ true
 node_has_spelling w n sorts rules start case each =
     let named : is_name (get [] w.sorts n.start) ≡ true = each_get (λ n. is_name n ≡ true) [] w.sorts n.start sorts start in
     ap (λ b. b && (nat_lt n.case (2 ^ 64) && list_all is_step (map (step_parts w) n.steps))) named

@@ -12,7 +12,8 @@ use Rattle.aw_sched.specs.Printed.{IsHeld}
 use Rattle.aw_sched.proofs.NodeProps.{named_prop}
 use Rattle.aw_sched.proofs.Reading.{node_again}
 
-pub read_by_grammar : (g : Grammar) (n : Node) (text : List ℕ) → IsHeld n → is_some (sort_of (grammar_of g) n) ≡ true → text ≡ node_text (words_of g) n → node_read (words_of g) (grammar_of g) text ≡ Named n
+pub read_by_grammar : (g : Grammar) (n : Node) (text : List ℕ) → IsHeld n → is_some (sort_of (grammar_of g) n) ≡ true → text ≡ node_text (words_of g)
+    n → node_read (words_of g) (grammar_of g) text ≡ Named n
 read_by_grammar g n text held valid e =
     ap (node_read (words_of g) (grammar_of g)) e
     ∙ ∥∥₁_elim g.well_formed (named_prop (node_read (words_of g) (grammar_of g) (node_text (words_of g) n)) n)

@@ -137,7 +137,8 @@ at_close cons close depth room bytes xs ys x left less rest behind more so_far n
     }
 
 -- a literal is read
-pub number_read : (cons : List Con) (depth room left n : ℕ) (bytes rest : List ℕ) → 0 < depth → left + 1 ≡ room → SaysBefore bytes (Number n ∷ []) rest → TakesArgument cons depth room bytes (grounds.Num n) left rest
+pub number_read : (cons : List Con) (depth room left n : ℕ) (bytes rest : List ℕ) → 0 < depth → left + 1 ≡ room → SaysBefore bytes (Number n ∷ [])
+    rest → TakesArgument cons depth room bytes (grounds.Num n) left rest
 number_read cons depth room left n bytes rest some e front = record {
   term = Literal (P.Num n);
   means = record { written = tt; shallow = omega (arith, some); known = refl; arities = refl };
@@ -145,7 +146,8 @@ number_read cons depth room left n bytes rest some e front = record {
   symbols = e;
 }
 
-pub text_read : (cons : List Con) (depth room left : ℕ) (text bytes rest : List ℕ) → 0 < depth → left + 1 ≡ room → SaysBefore bytes (Quoted text ∷ []) rest → TakesArgument cons depth room bytes (grounds.Text text) left rest
+pub text_read : (cons : List Con) (depth room left : ℕ) (text bytes rest : List ℕ) → 0 < depth → left + 1 ≡ room → SaysBefore bytes (Quoted text ∷ [])
+    rest → TakesArgument cons depth room bytes (grounds.Text text) left rest
 text_read cons depth room left text bytes rest some e front = record {
   term = Literal (P.Text text);
   means = record { written = tt; shallow = omega (arith, some); known = refl; arities = refl };
@@ -189,7 +191,8 @@ parts_read cons depth room within inside left con parts xs bytes first rest d e 
     }
 
 -- an argument whose parts were read, where they are as many as they have to be
-pub with_parts_read : {E : Type 0} (cons : List Con) (depth room within inside left : ℕ) (con parts : ℕ) (xs : List Ground) (bytes first rest : List ℕ) (r : Result Ground E) → within + 1 ≡ depth → inside + 1 ≡ room
+pub with_parts_read : {E : Type 0} (cons : List Con) (depth room within inside left : ℕ) (con parts : ℕ) (xs : List Ground)
+    (bytes first rest : List ℕ) (r : Result Ground E) → within + 1 ≡ depth → inside + 1 ≡ room
     → OpensParts cons bytes con parts first → TakesArguments cons 41 within inside first xs left rest → IfOk r (λ x. (x ≡ grounds.Con con xs) × (length xs ≡ parts))
     → IfOk r (λ x. TakesArgument cons depth room bytes x left rest)
 with_parts_read cons depth room within inside left con parts xs bytes first rest (Ok x) d e opened read made =
@@ -232,7 +235,8 @@ some_read cons bytes first xs opened braces =
         terms = ts;
         written = written_all cons 32 ts xs read.means;
         spelled = spelled_some ts (omega (arith, read.symbols, read.some));
-        within = few_is (length ts) (symbols_in_all ts) (depth_of_all ts) (omega (arith, braces.few, length_all cons 32 ts xs read.means)) (omega (arith, read.symbols)) (shallow_all cons 32 ts xs read.means);
+        within = few_is (length ts) (symbols_in_all ts) (depth_of_all ts) (omega (arith, braces.few, length_all cons 32 ts xs read.means))
+            (omega (arith, read.symbols)) (shallow_all cons 32 ts xs read.means);
         known = known_all cons 32 ts xs read.means;
         arities = arities_all cons 32 ts xs read.means;
       };

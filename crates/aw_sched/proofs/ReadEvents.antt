@@ -66,18 +66,21 @@ module _ (r now : ScheduleReader) (es : List Event) (later : Read) (grammar : no
   }
 
   -- one event more
-  pub one_read : (e : Event) → left now ≡ with_event (event_seen e) later → MayCome (grammar_of now.grammar.now) e → HasTypes (types_of now.typed.now.types) (grammar_of now.grammar.now) e → AreRead r (es ++ e ∷ []) later
+  pub one_read : (e : Event) → left now ≡ with_event (event_seen e) later → MayCome (grammar_of now.grammar.now) e →
+      HasTypes (types_of now.typed.now.types) (grammar_of now.grammar.now) e → AreRead r (es ++ e ∷ []) later
   one_read e is come fits = more_read (e ∷ []) (record { read = is; come = (come, tt); typed = (fits, tt) })
 
   -- the next event
-  pub next_read : (now' : ScheduleReader) → later ≡ left now' → (found : Option Event) (e : Event) → found ≡ Some e → ReadsNext (left now) (Ok found) (left now') → IfSome found (MayCome (grammar_of now.grammar.now)) →
+  pub next_read : (now' : ScheduleReader) → later ≡ left now' → (found : Option Event) (e : Event) → found ≡ Some e → ReadsNext (left now) (Ok found)
+      (left now') → IfSome found (MayCome (grammar_of now.grammar.now)) →
       IfSome found (HasTypes (types_of now.typed.now.types) (grammar_of now.grammar.now)) → AreRead r (es ++ e ∷ []) later
   next_read now' same found e is next come fits =
       one_read e (subst (λ o. ReadsNext (left now) (Ok o) (left now')) is next ∙ ap (with_event (event_seen e)) (sym same)) (subst (λ o. IfSome o (MayCome (grammar_of now.grammar.now))) is come)
       (subst (λ o. IfSome o (HasTypes (types_of now.typed.now.types) (grammar_of now.grammar.now))) is fits)
 
 -- the end behind some events
-pub end_read : (r now : ScheduleReader) (es : List Event) (found : Option Event) (after : Read) → found ≡ None → AreRead r es (left now) → ReadsNext (left now) (Ok found) after → AreRead r es (Events [])
+pub end_read : (r now : ScheduleReader) (es : List Event) (found : Option Event) (after : Read) → found ≡ None → AreRead r es (left now) →
+    ReadsNext (left now) (Ok found) after → AreRead r es (Events [])
 end_read r now es found after is before next = record {
   read = before.read ∙ ap (with_events (map event_seen es)) (subst (λ o. ReadsNext (left now) (Ok o) after) is next);
   come = before.come;
@@ -85,7 +88,8 @@ end_read r now es found after is before next = record {
 }
 
 -- a fault behind some events
-pub fault_read : (r now : ScheduleReader) (es : List Event) (fault : SchedFault) (after : Read) → AreRead r es (left now) → ReadsNext (left now) (Err fault) after → ReadsNext (left r) (Err fault) after
+pub fault_read : (r now : ScheduleReader) (es : List Event) (fault : SchedFault) (after : Read) → AreRead r es (left now) → ReadsNext (left now)
+    (Err fault) after → ReadsNext (left r) (Err fault) after
 fault_read r now es (Told line kind) after before next = before.read ∙ ap (with_events (map event_seen es)) next ∙ with_fault (map event_seen es) line kind
 fault_read r now es Unread after before next = tt
 

@@ -1,5 +1,6 @@
 -- The line that is written for an event asks for this event, and nothing is wrong with it.
-use Rattle.std.proofs.Common.{◌≡◌, ℕ, zero, suc, ◌<◌, ◌^◌, refl, ap, ◌∙◌, Bool, true, false, cond, not, ◌&&◌, ◌||◌, nat_lt, nat_le, List, [], ◌∷◌, map, length, Option, Some, None, is_some, slice_get, arith}
+use Rattle.std.proofs.Common.{◌≡◌, ℕ, zero, suc, ◌<◌, ◌^◌, refl, ap, ◌∙◌, Bool, true, false, cond, not, ◌&&◌, ◌||◌, nat_lt, nat_le, List, [], ◌∷◌, map}
+use Rattle.std.proofs.Common.{length, Option, Some, None, is_some, slice_get, arith}
 use Rattle.std.specs.Prelude.{is_none}
 use Rattle.std.proofs.lemmas.Bool.{and_parts}
 use Rattle.std.proofs.lemmas.Bool.Decides.{nat_tests}
@@ -102,7 +103,8 @@ none_unknown d args well =
     neither (not (all_known (con_names d) (written_args (con_names d) args))) (nat_lt 0 (length (leaves_of (all_resolved (con_names d) (written_args (con_names d) args)))))
     (ap not well.well.known) (ap (λ xs. nat_lt 0 (length xs)) leaves)
 
-develop_asked : (d : Declarations) (n : Node) (r : ℕ) (args : List Ground) → IsWellFormed (words_in d) (grammar_in d) → choice_ok (grammar_in d) (Develop n r args) ≡ true → IsSmallChoice (Develop n r args) → IsAsked d (Chooses (Develop n r args))
+develop_asked : (d : Declarations) (n : Node) (r : ℕ) (args : List Ground) → IsWellFormed (words_in d) (grammar_in d) → choice_ok (grammar_in d)
+    (Develop n r args) ≡ true → IsSmallChoice (Develop n r args) → IsAsked d (Chooses (Develop n r args))
 develop_asked d n r args formed ok small =
     let w = words_in d in
     let g = grammar_in d in
@@ -124,7 +126,8 @@ develop_asked d n r args formed ok small =
         args_spelled d.cons g refl classes.cons_fit args grounds small.2,
         args_same w g args grounds,
       );
-      kind = four_none (args_are_past ws || is_long (node_text w n)) (not (stands (get [] names r) names) || args_unknown d ws) (not (all_have_arities d.cons ws)) (is_none (node_named w g (node_text w n)))
+      kind = four_none (args_are_past ws || is_long (node_text w n)) (not (stands (get [] names r) names) || args_unknown d ws)
+          (not (all_have_arities d.cons ws)) (is_none (node_named w g (node_text w n)))
           (neither (args_are_past ws) (is_long (node_text w n)) (args_within d args rest.1 well) read.1.short)
           (neither (not (stands (get [] names r) names)) (args_unknown d ws) (ap not (stands_at names r formed.rules_differ below)) (none_unknown d args well))
           (ap not well.well.arities)

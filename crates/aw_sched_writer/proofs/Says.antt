@@ -86,7 +86,8 @@ event_says w (Chooses (Develop n r args)) h =
     let asked = rule ++ args_text w args in
     let said = Name rule ∷ args_spelling (written_args w.cons args) in
     let all = Name (codes "choose") ∷ Node node ∷ said in
-    moved (codes "choose " ++ ((node ++ 32 ∷ rule) ++ args_text w args)) (codes "choose " ++ (node ++ 32 ∷ asked)) all all (ap (λ xs. codes "choose " ++ xs) (append_assoc node (32 ∷ rule) (args_text w args))) refl
+    moved (codes "choose " ++ ((node ++ 32 ∷ rule) ++ args_text w args)) (codes "choose " ++ (node ++ 32 ∷ asked)) all all
+    (ap (λ xs. codes "choose " ++ xs) (append_assoc node (32 ∷ rule) (args_text w args))) refl
     (says_name (codes "choose") (32 ∷ (node ++ 32 ∷ asked)) (Node node ∷ said) refl refl
     (says_blank (node ++ 32 ∷ asked) (Node node ∷ said)
     (says_node node asked said h.0 h.1 (says_blank asked said (rule_says w rule args h.2 h.3 h.4)))))

@@ -42,7 +42,8 @@ mutual
   text_same w arities (Made (Con c) Nil) h = refl
   text_same w arities (Made (Con c) (More t ts)) h =
       let parts = and_parts (heads_fit arities t) (all_heads_fit arities ts) (and_parts (head_fits arities (Con c) (count (More t ts))) (all_heads_fit arities (More t ts)) h).1 in
-      ap (λ xs. get [] w.cons c ++ (codes "(" ++ (xs ++ codes ")"))) (ap (λ x. x ++ parts_behind (named_parts w.cons [] (as_terms ts))) (text_same w arities t parts.0) ∙ behind_same w arities (ground_text w t) ts parts.1)
+      ap (λ xs. get [] w.cons c ++ (codes "(" ++ (xs ++ codes ")"))) (ap (λ x. x ++ parts_behind (named_parts w.cons [] (as_terms ts)))
+      (text_same w arities t parts.0) ∙ behind_same w arities (ground_text w t) ts parts.1)
   text_same w arities (Made (Num n) Nil) h = refl
   text_same w arities (Made (Num n) (More t ts)) h = absurd (never_zero (count ts) (and_parts (nat_eq (count (More t ts)) 0) (all_heads_fit arities (More t ts)) h).0)
   text_same w arities (Made (Text x) Nil) h = refl
@@ -129,7 +130,9 @@ terms_fit g (t ∷ ts) h =
     (record { heads = s.heads ∙ one.0; depth = shallow }, terms_fit g ts parts.1)
 
 -- ---- it can be spelled
-made_spelled : (cons : List decl.Con) → Each IsName (names_in cons) → (h : Head) (ts : Trees Never) → head_fits (arities_in cons) h (count ts) ≡ true → IsSmall h → AreSpelledParts (named_parts (names_in cons) [] (as_terms ts)) → IsSpelledTerm (named (names_in cons) [] (Made h (as_terms ts)))
+made_spelled : (cons : List decl.Con) → Each IsName (names_in cons) → (h : Head) (ts : Trees Never) → head_fits (arities_in cons) h
+    (count ts) ≡ true → IsSmall h → AreSpelledParts (named_parts (names_in cons) [] (as_terms ts)) →
+    IsSpelledTerm (named (names_in cons) [] (Made h (as_terms ts)))
 made_spelled cons names (Con c) Nil fits small parts = each_get IsName [] (names_in cons) c names (found cons c 0 fits).below
 made_spelled cons names (Con c) (More t ts) fits small parts = (each_get IsName [] (names_in cons) c names (found cons c (count (More t ts)) fits).below, parts)
 made_spelled cons names (Num n) ts fits small parts = small
@@ -142,13 +145,15 @@ mutual
       let parts = and_parts (head_fits (arities_in cons) h (count ts)) (all_heads_fit (arities_in cons) ts) fits in
       made_spelled cons names h ts parts.0 small.0 (parts_spelled cons names ts parts.1 small.1)
 
-  parts_spelled : (cons : List decl.Con) → Each IsName (names_in cons) → (ts : Trees Never) → all_heads_fit (arities_in cons) ts ≡ true → PartsFit ts → AreSpelledParts (named_parts (names_in cons) [] (as_terms ts))
+  parts_spelled : (cons : List decl.Con) → Each IsName (names_in cons) → (ts : Trees Never) → all_heads_fit (arities_in cons) ts ≡ true →
+      PartsFit ts → AreSpelledParts (named_parts (names_in cons) [] (as_terms ts))
   parts_spelled cons names Nil fits small = tt
   parts_spelled cons names (More t ts) fits small =
       let parts = and_parts (heads_fit (arities_in cons) t) (all_heads_fit (arities_in cons) ts) fits in
       (term_spelled cons names t parts.0 small.0, parts_spelled cons names ts parts.1 small.1)
 
-pub args_spelled : (cons : List decl.Con) (g : R.Grammar) → g.arities ≡ arities_in cons → Each IsName (names_in cons) → (args : List Ground) → grounds_ok g args ≡ true → Each NumbersFit args → AreSpelled (written_args (names_in cons) args)
+pub args_spelled : (cons : List decl.Con) (g : R.Grammar) → g.arities ≡ arities_in cons → Each IsName (names_in cons) → (args : List Ground) →
+    grounds_ok g args ≡ true → Each NumbersFit args → AreSpelled (written_args (names_in cons) args)
 args_spelled cons g same names [] ok small = tt
 args_spelled cons g same names (t ∷ ts) ok small =
     let parts = and_parts (ground_ok g t) (grounds_ok g ts) ok in

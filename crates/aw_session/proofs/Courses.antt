@@ -1,5 +1,6 @@
 -- One piece more in the course of a session.
-use Rattle.std.proofs.Common.{◌≡◌, ◌≢◌, ℕ, zero, suc, ◌+◌, ◌-◌, ◌≤◌, List, [], ◌∷◌, ◌++◌, length, take, min, Bool, true, false, Option, Err, refl, ap, sym, subst, ◌∙◌, arith, append_assoc, append-nil, length-append}
+use Rattle.std.proofs.Common.{◌≡◌, ◌≢◌, ℕ, zero, suc, ◌+◌, ◌-◌, ◌≤◌, List, [], ◌∷◌, ◌++◌, length, take, min, Bool, true, false, Option, Err, refl, ap}
+use Rattle.std.proofs.Common.{sym, subst, ◌∙◌, arith, append_assoc, append-nil, length-append}
 use Rattle.std.proofs.Math.Seq.{take-append-add, take-length}
 use Rattle.aw_out.specs.Wires.{Content, unread}
 use Rattle.aw_codec.specs.Reading.{Short}
@@ -20,7 +21,8 @@ abbrev pub Adds-up : {W : Type 0} → (W → W → List ℕ → List ℕ → Boo
 Adds-up {W} talks = (a b c : W) (r w r' w' : List ℕ) (f : Bool) → talks a b r w false → talks b c r' w' f → talks a c (r ++ r') (w ++ w') f
 
 -- A session in which so much was read and answered, and a piece whose front was taken in, of which these frames were answered.
-pub record Fed {S W : Type 0} (answers : S → Frame → List ℕ → S → Type 0) (talks : W → W → List ℕ → List ℕ → Bool → Type 0) (s t t' : S) (u v : W) (kept piece front kept' : List ℕ) (total count count' : ℕ) (read : List ℕ) (frames frames' : List Frame) (replies replies' : List (List ℕ)) : Type 0 where
+pub record Fed {S W : Type 0} (answers : S → Frame → List ℕ → S → Type 0) (talks : W → W → List ℕ → List ℕ → Bool → Type 0) (s t t' : S) (u v : W)
+    (kept piece front kept' : List ℕ) (total count count' : ℕ) (read : List ℕ) (frames frames' : List Frame) (replies replies' : List (List ℕ)) : Type 0 where
   pub yields : Yields read frames kept
   pub sized : total ≡ length read
   pub counted : count ≡ length frames
@@ -61,7 +63,8 @@ cut-behind xs ys written c = record {
   count = c.count;
   are = ap (λ (zs : List (List ℕ)). xs ++ zs) c.are ∙ sym (append_assoc xs c.whole (c.last ∷ []));
   part = c.part;
-  written_is = ap (λ (w : List ℕ). joined xs ++ w) c.written_is ∙ sym (append_assoc (joined xs) (joined c.whole) (take c.count c.last)) ∙ ap (λ (w : List ℕ). w ++ take c.count c.last) (sym (joined-append xs c.whole));
+  written_is = ap (λ (w : List ℕ). joined xs ++ w) c.written_is ∙ sym (append_assoc (joined xs) (joined c.whole) (take c.count c.last))
+      ∙ ap (λ (w : List ℕ). w ++ take c.count c.last) (sym (joined-append xs c.whole));
 }
 
 module _
@@ -111,7 +114,9 @@ module _
       frames = frames ++ frames';
       replies = replies ++ replies';
       answered = fed-answered;
-      yields = subst (λ (b : List ℕ). Yields (read ++ piece) (frames ++ frames') b) (sym same) (subst (λ (b : List ℕ). Yields (read ++ b) (frames ++ frames') kept') (fed.front_is ∙ ap (λ (n : ℕ). take n piece) all ∙ take-length piece) fed-front);
+      yields = subst (λ (b : List ℕ). Yields (read ++ piece) (frames ++ frames') b) (sym same)
+          (subst (λ (b : List ℕ). Yields (read ++ b) (frames ++ frames') kept') (fed.front_is ∙ ap (λ (n : ℕ). take n piece) all
+          ∙ take-length piece) fed-front);
       short = ap frame same ∙ short;
       sound = sound;
       counted = fed-counted;
@@ -150,7 +155,8 @@ module _
         talks u v'' (read ++ piece) (joined ((replies ++ replies') ++ closing how)) false
     closed-whole how reply e h k =
         subst (λ (w : List ℕ). talks u v'' (read ++ piece) w false) (sym (ap (λ (xs : List (List ℕ)). joined ((replies ++ replies') ++ xs)) e ∙ joined-one (replies ++ replies') reply))
-        (subst (λ (r : List ℕ). talks u v'' r (joined (replies ++ replies') ++ reply) false) (append-nil (read ++ piece)) (adds u v' v'' (read ++ piece) (joined (replies ++ replies')) [] reply false (fed-written h) k))
+        (subst (λ (r : List ℕ). talks u v'' r (joined (replies ++ replies') ++ reply) false) (append-nil (read ++ piece))
+        (adds u v' v'' (read ++ piece) (joined (replies ++ replies')) [] reply false (fed-written h) k))
 
     served-so : (how : How) (w : List ℕ) (failed : Bool) (left : List ℕ) → Ends how (read ++ piece) w failed (frames ++ frames') (replies ++ replies') → LeavesNone how left →
         IsServed answers s t' (read ++ piece) w failed left (record { frames = count'; how = how })
@@ -167,8 +173,18 @@ module _
           written = all ++ part;
           failed = true;
           talked = subst (λ (r : List ℕ). talks u v'' r (all ++ part) true) (append-nil (read ++ piece)) (adds u v' v'' (read ++ piece) all [] part true (fed-written h) k.2);
-          served = served-so Fault (all ++ part) true (unread (content v''))
-              (refl, Ending how (λ none. absurd (cc (e, none))) so (record { whole = replies ++ replies'; last = reply; count = k.0; are = ap (λ (xs : List (List ℕ)). (replies ++ replies') ++ xs) e; part = k.1; written_is = refl })) tt;
+          served = served-so Fault (all ++ part) true (unread (content v'')) (
+            refl,
+            Ending how (λ none. absurd (cc (e, none))) so (record {
+              whole = replies ++ replies';
+              last = reply;
+              count = k.0;
+              are =
+                  ap (λ (xs : List (List ℕ)). (replies ++ replies') ++ xs) e;
+              part = k.1;
+              written_is = refl;
+            }),
+          ) tt;
         }
     fed-ends Bad how reply e so h k =
         let same : Bad ≡ how = k.0 in
@@ -194,7 +210,8 @@ module _
     fed-ends Cut how reply e so h k = absurd (cc (ap closing k.0 ∙ e))
 
     -- a frame got no reply
-    pub fed-halts : {F : Type 0} (breaks : S → Frame → F → S → Type 0) (fault : F) (between : S) → t' ≡ between → (end : S) → StopsAt breaks kept' between fault end → talks v v' [] (joined replies') false →
+    pub fed-halts : {F : Type 0} (breaks : S → Frame → F → S → Type 0) (fault : F) (between : S) → t' ≡ between → (end : S) →
+        StopsAt breaks kept' between fault end → talks v v' [] (joined replies') false →
         IsHalted answers breaks talks s end u v' fault
     fed-halts {F} breaks fault between same end stops h = record {
       read = read ++ piece;

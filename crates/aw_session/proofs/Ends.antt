@@ -37,7 +37,15 @@ module _
       written = joined going.replies;
       failed = true;
       talked = still true h;
-      served = record { frames = going.frames; replies = going.replies; answered = going.answered; counted = going.counted; ends = (refl, Reading kept.bytes going.yields going.short limited refl); none_left = tt };
+      served = record {
+        frames = going.frames;
+        replies = going.replies;
+        answered = going.answered;
+        counted = going.counted;
+        ends =
+            (refl, Reading kept.bytes going.yields going.short limited refl);
+        none_left = tt;
+      };
     }
 
     -- some bytes were read

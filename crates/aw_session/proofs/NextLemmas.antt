@@ -8,7 +8,8 @@ use Rattle.aw_session.specs.Steps.{Goes}
 use Rattle.aw_session.specs.declared.answering.Went.{Went}
 
 need-is : (failed : Bool) (bytes : List ℕ) (read : Result (Frame × List ℕ) Fault) (t : Stream) → Need ≡ (if failed then Wrong else next_in read)
-    → t ≡ (if failed then record { bytes = bytes; failed = failed } else left_in (record { bytes = bytes; failed = failed }) read) → (read ≡ Err Short) × (t ≡ record { bytes = bytes; failed = failed })
+    → t ≡ (if failed then record { bytes = bytes; failed = failed } else left_in (record { bytes = bytes; failed = failed }) read) →
+    (read ≡ Err Short) × (t ≡ record { bytes = bytes; failed = failed })
 need-is true bytes read t e h = absurd (cc e)
 need-is false bytes (Ok x) t e h = absurd (cc e)
 need-is false bytes (Err Short) t e h = (refl, h)
@@ -30,5 +31,6 @@ pub was-bad : (s t : Stream) → s.failed ≡ false → Wrong ≡ next_of s → 
 was-bad s t f e h = wrong-is s.failed s.bytes (frame s.bytes) t f e h
 
 -- what became of the frame, where it is known
-pub goes-at : {S : Type 0} (answers : S → Frame → List ℕ → S → Type 0) (talks : List ℕ → Bool → Type 0) (s t : S) (from to : Stream) (w v : Went) → w ≡ v → Goes answers talks s t from to w → Goes answers talks s t from to v
+pub goes-at : {S : Type 0} (answers : S → Frame → List ℕ → S → Type 0) (talks : List ℕ → Bool → Type 0) (s t : S) (from to : Stream) (w v : Went) →
+    w ≡ v → Goes answers talks s t from to w → Goes answers talks s t from to v
 goes-at {S} answers talks s t from to w v e h = subst (λ (x : Went). Goes answers talks s t from to x) e h

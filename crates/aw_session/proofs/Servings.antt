@@ -32,7 +32,8 @@ abbrev pub session_with : ℕ → Bool → List ℕ → List ℕ → Bool → Li
 session_with role dialed read written failed left = record { role = role; dialed = dialed; read = read; left = left; written = written; failed = failed }
 
 -- one was opened, and this went over the wire in it
-pub follow-one : (role : ℕ) (dialed : Bool) (r w : List ℕ) (f : Bool) (a b c : Option Content) → Both (Opens role dialed) a b → Both (Grows r w f) b c → Both (Follow (session_with role dialed r w f (unread c) ∷ [])) a c
+pub follow-one : (role : ℕ) (dialed : Bool) (r w : List ℕ) (f : Bool) (a b c : Option Content) → Both (Opens role dialed) a b →
+    Both (Grows r w f) b c → Both (Follow (session_with role dialed r w f (unread c) ∷ [])) a c
 follow-one role dialed r w f None None None g h = tt
 follow-one role dialed r w f None None (Some c) g h = absurd h
 follow-one role dialed r w f None (Some b) c g h = absurd g
@@ -78,7 +79,8 @@ served-one {S} answers role s t t' (y ∷ xs) [] x l h r d k = absurd h
 served-one {S} answers role s t t' (y ∷ xs) (m ∷ ls) x l h r d k = (h.0, h.1, h.2, h.3, served-one answers role h.0 t t' xs ls x l h.4 r d k)
 
 -- and one more
-pub serving-one : {S W : Type 0} (answers : S → Frame → List ℕ → S → Type 0) (content : W → Option Content) (faults failed_openings : W → ℕ) (role : ℕ) (s t t' : S) (u v v' : W) (log : List SessionLog) (entry : SessionLog) →
+pub serving-one : {S W : Type 0} (answers : S → Frame → List ℕ → S → Type 0) (content : W → Option Content) (faults failed_openings : W → ℕ)
+    (role : ℕ) (s t t' : S) (u v v' : W) (log : List SessionLog) (entry : SessionLog) →
     IsServing answers content faults failed_openings role s t u v log → IsNext answers content faults failed_openings role t t' v v' entry →
     IsServing answers content faults failed_openings role s t' u v' (log ++ entry ∷ [])
 serving-one {S} {W} answers content faults failed_openings role s t t' u v v' log entry g h = record {
@@ -98,7 +100,8 @@ failed-so Long read written failed frames replies h = h.0
 failed-so Fault read written failed frames replies h = h.0
 
 -- a session that came was served
-pub next-done : {S W : Type 0} (answers : S → Frame → List ℕ → S → Type 0) (content : W → Option Content) (is_open : W → Bool) (faults failed_openings : W → ℕ) (role : ℕ) (s t : S) (u v w : W) (log : SessionLog) →
+pub next-done : {S W : Type 0} (answers : S → Frame → List ℕ → S → Type 0) (content : W → Option Content) (is_open : W → Bool)
+    (faults failed_openings : W → ℕ) (role : ℕ) (s t : S) (u v w : W) (log : SessionLog) →
     Both (Arrives role Came) (content u) (content v) → faults v ≡ faults u → failed_openings v ≡ failed_openings u →
     IsDone answers (Talks content is_open faults failed_openings) content s t v w log → IsNext answers content faults failed_openings role s t u w log
 next-done {S} {W} answers content is_open faults failed_openings role s t u v w log came f o done = record {
@@ -113,7 +116,8 @@ next-done {S} {W} answers content is_open faults failed_openings role s t u v w 
 }
 
 -- in a session that came a frame got no reply
-pub next-halted : {S W F : Type 0} (answers : S → Frame → List ℕ → S → Type 0) (breaks : S → Frame → F → S → Type 0) (content : W → Option Content) (is_open : W → Bool) (faults failed_openings : W → ℕ) (role : ℕ) (s t : S) (u v w : W) (fault : F) →
+pub next-halted : {S W F : Type 0} (answers : S → Frame → List ℕ → S → Type 0) (breaks : S → Frame → F → S → Type 0) (content : W → Option Content)
+    (is_open : W → Bool) (faults failed_openings : W → ℕ) (role : ℕ) (s t : S) (u v w : W) (fault : F) →
     Both (Arrives role Came) (content u) (content v) → IsHalted answers breaks (Talks content is_open faults failed_openings) s t v w fault →
     StopsNext answers breaks content failed_openings role s t u w (Node fault)
 next-halted {S} {W} {F} answers breaks content is_open faults failed_openings role s t u v w fault came halted = (
@@ -123,6 +127,7 @@ next-halted {S} {W} {F} answers breaks content is_open faults failed_openings ro
 )
 
 -- what came of it, where that is known
-pub serves-at : {S W : Type 0} (answers : S → Frame → List ℕ → S → Type 0) (content : W → Option Content) (faults failed_openings : W → ℕ) (role : ℕ) (s t : S) (u v : W) (old new : List SessionLog) (b : Bool) → b ≡ true →
+pub serves-at : {S W : Type 0} (answers : S → Frame → List ℕ → S → Type 0) (content : W → Option Content) (faults failed_openings : W → ℕ) (role : ℕ)
+    (s t : S) (u v : W) (old new : List SessionLog) (b : Bool) → b ≡ true →
     ServesNext answers content faults failed_openings role s t u v old new b → ServesNext answers content faults failed_openings role s t u v old new true
 serves-at {S} {W} answers content faults failed_openings role s t u v old new b e h = subst (λ (x : Bool). ServesNext answers content faults failed_openings role s t u v old new x) e h

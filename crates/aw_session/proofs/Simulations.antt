@@ -26,7 +26,8 @@ module _
         (others.0, (one.0, one.1, others.1), others.2)
 
     -- a session
-    pub served-as : (n m : S) (s : P) (read written : List ℕ) (failed : Bool) (left : List ℕ) (l : SessionLog) → IsServed A n m read written failed left l → R n s → (t : P) × IsServed B s t read written failed left l × R m t
+    pub served-as : (n m : S) (s : P) (read written : List ℕ) (failed : Bool) (left : List ℕ) (l : SessionLog) → IsServed A n m read written failed
+        left l → R n s → (t : P) × IsServed B s t read written failed left l × R m t
     served-as n m s read written failed left l h r =
         let them = answered-as n m s h.frames h.replies h.answered r in
         (them.0, record { frames = h.frames; replies = h.replies; answered = them.1; counted = h.counted; ends = h.ends; none_left = h.none_left }, them.2)
@@ -49,7 +50,8 @@ module _
         (them.0, record { frames = h.frames; replies = h.replies; between = them.0; rest = h.rest; answered = them.1; yields = h.yields; written_is = h.written_is; stops = Reading refl })
 
     -- what was served
-    pub serving-as : (W : Type 0) (content : W → Option Content) (faults failed_openings : W → ℕ) (role : ℕ) (n m : S) (s : P) (u v : W) (log : List SessionLog) → IsServing A content faults failed_openings role n m u v log → R n s →
+    pub serving-as : (W : Type 0) (content : W → Option Content) (faults failed_openings : W → ℕ) (role : ℕ) (n m : S) (s : P) (u v : W)
+        (log : List SessionLog) → IsServing A content faults failed_openings role n m u v log → R n s →
         (t : P) × IsServing B content faults failed_openings role s t u v log
     serving-as W content faults failed_openings role n m s u v log h r =
         let all = all-served-as role n m s h.sessions log h.served r in
@@ -62,7 +64,8 @@ module _
         let all = all-served-as role n m s h.sessions h.log h.served r in
         (all.0, record { log = h.log; sessions = h.sessions; served = all.1; told = h.told; rose = h.rose })
 
-    last-as : {F : Type 0} (breaks : S → Frame → F → S → Type 0) (role : ℕ) (n m : S) (s : P) (fault : F) (G : Type 0) (other : G) (last : Option Session) → LastStops A breaks role n m fault last → R n s →
+    last-as : {F : Type 0} (breaks : S → Frame → F → S → Type 0) (role : ℕ) (n m : S) (s : P) (fault : F) (G : Type 0) (other : G)
+        (last : Option Session) → LastStops A breaks role n m fault last → R n s →
         (t : P) × LastStops {F = G} B Stays role s t other last
     last-as {F} breaks role n m s fault G other None h r = (s, refl)
     last-as {F} breaks role n m s fault G other (Some x) h r = let them = stopped-as breaks n m s x.read x.written fault G other h.3 r in (them.0, (h.0, h.1, h.2, them.1))

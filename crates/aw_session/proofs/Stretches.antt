@@ -105,7 +105,8 @@ stretch-broken {S} answers A B C s t t' from mid to n go old step = record {
 }
 
 -- the next frame got no reply
-pub stretch-halts : {S F : Type 0} (answers : S → Frame → List ℕ → S → Type 0) (breaks : S → Frame → F → S → Type 0) (A B C : List ℕ → Bool → Type 0) (s t t' : S) (from mid : List ℕ) (n : ℕ) (fault : F) → Goes-together A B C →
+pub stretch-halts : {S F : Type 0} (answers : S → Frame → List ℕ → S → Type 0) (breaks : S → Frame → F → S → Type 0) (A B C : List ℕ → Bool → Type 0)
+    (s t t' : S) (from mid : List ℕ) (n : ℕ) (fault : F) → Goes-together A B C →
     IsStretch answers A s t from mid n → StopsAt breaks mid t fault t' → B [] false → IsHaltedStretch answers breaks C s t' from fault
 stretch-halts {S} {F} answers breaks A B C s t t' from mid n fault go old stops b = record {
   frames = old.frames;

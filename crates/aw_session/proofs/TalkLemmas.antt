@@ -53,14 +53,16 @@ grown-twice : (r w r' w' left left' : List ℕ) (b b' : Bool) (s : Session) → 
 grown-twice r w r' w' left left' b b' s = let x = append_assoc s.read r r' in let y = append_assoc s.written w w' in let z = or-assoc s.failed b b' in cc
 
 -- a change of a session that is a growth is one of the last of them
-grown-last : (f : Session → Session) (r w : List ℕ) (b : Bool) → ((s : Session) → f s ≡ grown r w b (f s).left s) → (xs : List Session) → with_last f xs ≡ with_last (grown r w b (last_left (with_last f xs))) xs
+grown-last : (f : Session → Session) (r w : List ℕ) (b : Bool) → ((s : Session) → f s ≡ grown r w b (f s).left s) → (xs : List Session) →
+    with_last f xs ≡ with_last (grown r w b (last_left (with_last f xs))) xs
 grown-last f r w b is [] = refl
 grown-last f r w b is (s ∷ []) = ap (λ (t : Session). t ∷ []) (is s)
 grown-last f r w b is (s ∷ t ∷ []) = ap (λ (u : Session). s ∷ u ∷ []) (is t)
 grown-last f r w b is (s ∷ t ∷ u ∷ us) = ap (λ (vs : List Session). s ∷ vs) (grown-last f r w b is (t ∷ u ∷ us))
 
 -- and so it is told
-grows-by : (f : Session → Session) (r w : List ℕ) (b : Bool) → ((s : Session) → f s ≡ grown r w b (f s).left s) → (x y : Content) → y.passed ≡ with_last f x.passed → y.coming ≡ x.coming → Grows r w b x y
+grows-by : (f : Session → Session) (r w : List ℕ) (b : Bool) → ((s : Session) → f s ≡ grown r w b (f s).left s) → (x y : Content) →
+    y.passed ≡ with_last f x.passed → y.coming ≡ x.coming → Grows r w b x y
 grows-by f r w b is x y e k = (last_left (with_last f x.passed), e ∙ grown-last f r w b is x.passed, k)
 
 -- nothing happened
@@ -119,7 +121,8 @@ grows-end buf (Some x) (Some y) h = let none = grows-none (Some x) in (none.0, a
 
 -- ---- the whole wire
 
-pub talks-none : {W : Type 0} (content : W → Option Content) (is_open : W → Bool) (faults failed_openings : W → ℕ) (a : W) → is_open a ≡ true → Talks content is_open faults failed_openings a a [] [] false
+pub talks-none : {W : Type 0} (content : W → Option Content) (is_open : W → Bool) (faults failed_openings : W → ℕ) (a : W) → is_open a ≡ true →
+    Talks content is_open faults failed_openings a a [] [] false
 talks-none content is_open faults failed_openings a e = record { stays = e; told = grows-none (content a); counts = refl; openings = refl }
 
 pub counts-then : (b : Bool) (x y z : ℕ) → y ≡ x → Counts b y z → Counts b x z

@@ -15,7 +15,8 @@ use Rattle.aw_space.specs.declared.space.Space.{Space}
 use Rattle.aw_space.specs.SpaceView.{space_of}
 use Rattle.aw_site.specs.Shown.{Shows}
 
-pub new_shown : {F : Type 0} (f : Ghosts F) (space : Space F f) (subs : Subs) (outbox : List Message) (loads : Bool) (role : ℕ) → space.role ≡ role → space.held.items ≡ [] → space.choices.items ≡ [] → f.map space.facts ≡ []
+pub new_shown : {F : Type 0} (f : Ghosts F) (space : Space F f) (subs : Subs) (outbox : List Message) (loads : Bool) (role : ℕ) → space.role ≡ role →
+    space.held.items ≡ [] → space.choices.items ≡ [] → f.map space.facts ≡ []
     → ((x : Ref) → is_asked subs.subs x ≡ false) → ((x : Ref) → watchers subs.subs x ≡ 0) → outbox ≡ [] → Shows f space subs outbox loads (empty_site loads role)
 new_shown f space subs outbox loads role same nodes choices equations asked watched sent = record {
   holds = record {
@@ -29,6 +30,7 @@ new_shown f space subs outbox loads role same nodes choices equations asked watc
 }
 
 -- some site is shown after an event as some was before it
-pub shown_on : {A E : Type 0} (r : Result A E) (Old New : Site → Type 0) (after : Site → Site) → OnOk r ((s : Site) → Old s → New (after s)) → OnErr r ((s : Site) → Old s → New s) → ∥ ((s : Site) × Old s) ∥₁ → ∥ ((s : Site) × New s) ∥₁
+pub shown_on : {A E : Type 0} (r : Result A E) (Old New : Site → Type 0) (after : Site → Site) → OnOk r ((s : Site) → Old s → New (after s)) →
+    OnErr r ((s : Site) → Old s → New s) → ∥ ((s : Site) × Old s) ∥₁ → ∥ ((s : Site) × New s) ∥₁
 shown_on (Ok a) Old New after ok err h = ∥∥₁_map h (λ w. (after w.0, ok w.0 w.1))
 shown_on (Err e) Old New after ok err h = ∥∥₁_map h (λ w. (w.0, err w.0 w.1))

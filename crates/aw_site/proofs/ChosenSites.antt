@@ -143,7 +143,8 @@ children_calls g (c ∷ cs) h =
     let rest = children_calls g cs h.1 in
     λ i. record { node = c.node; sort = s i; inherited = c.inherited } ∷ rest i
 
-found_cases : (g : Grammar) (n : Node) (b : Bool) (k : program.Held) (o : Option Held) (h : Held) → cond b (Some (view.held_of g k)) o ≡ Some h → (b ≡ true → n ≡ k.node) → (o ≡ Some h → h.sort ≡ sort_or (sort_of g n)) → h.sort ≡ sort_or (sort_of g n)
+found_cases : (g : Grammar) (n : Node) (b : Bool) (k : program.Held) (o : Option Held) (h : Held) → cond b (Some (view.held_of g k)) o ≡ Some h →
+    (b ≡ true → n ≡ k.node) → (o ≡ Some h → h.sort ≡ sort_or (sort_of g n)) → h.sort ≡ sort_or (sort_of g n)
 found_cases g n true k o h e same f = let s : view.held_of g k ≡ h = cc in sym (ap (λ (h : Held). h.sort) s) ∙ ap (λ m. sort_or (sort_of g m)) (sym (same refl))
 found_cases g n false k o h e same f = f e
 
@@ -183,7 +184,8 @@ valid_sort : (o : Option ℕ) → is_some o ≡ true → o ≡ Some (sort_or o)
 valid_sort None e = absurd cc
 valid_sort (Some s) e = refl
 
-held_takes : (o : Option Held) (g : Grammar) (k : Map) (n : Node) (r : ℕ) (args : List Ground) (rule : Rule) (bound : List Ref) → ((h : Held) → o ≡ Some h → h.sort ≡ sort_or (sort_of g n)) → is_some (sort_of g n) ≡ true
+held_takes : (o : Option Held) (g : Grammar) (k : Map) (n : Node) (r : ℕ) (args : List Ground) (rule : Rule) (bound : List Ref) →
+    ((h : Held) → o ≡ Some h → h.sort ≡ sort_or (sort_of g n)) → is_some (sort_of g n) ≡ true
     → by_held o g k n r args ≡ Takes rule bound → (slice_get g.rules r ≡ Some rule) × (sort_of g n ≡ Some rule.sort)
 held_takes None g k n r args rule bound sorts valid e = absurd cc
 held_takes (Some h) g k n r args rule bound sorts valid e =
@@ -223,7 +225,8 @@ module _ (g : Grammar) (s : Site) (c : Choice) (hs : List program.Held) (cs : Li
   -- the plan for what was made
   pub plan_prepared : (other : Grammar) (p : Plan) → other ≡ g
       → p.wanted.items ≡ wanted_of other (worked g s c (outcome g s c)) (made_mentions other (worked g s c (outcome g s c)) (map equation_of m.equations) (map (child_call other) m.children))
-      → map (message_of other) p.sent.items ≡ told other (worked g s c (outcome g s c)) (map equation_of m.equations) (map (child_call other) m.children) ++ asks_for other (worked g s c (outcome g s c)) p.wanted.items
+      → map (message_of other) p.sent.items ≡ told other (worked g s c (outcome g s c)) (map equation_of m.equations)
+      (map (child_call other) m.children) ++ asks_for other (worked g s c (outcome g s c)) p.wanted.items
       → IsPlanned g (worked g s c (outcome g s c)) (reaction_of s (choose g s c)) p
   plan_prepared other p e w v =
       let t = worked g s c (outcome g s c) in

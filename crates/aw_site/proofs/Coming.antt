@@ -52,7 +52,8 @@ use Rattle.aw_site.proofs.Receptions.{call_may_come, tell_may_come, bad_name, no
 
 -- ---- a sender
 
-pub sends_as : {F : Type 0} (f : Ghosts F) (sender : Sender F f) (s : Site) (k : P.Map) (es : List Equation) → s.role ≡ sender.role → s.loads ≡ sender.loads → ((r : Ref) → find s.equations r ≡ find (k ++ map equation_of es) r)
+pub sends_as : {F : Type 0} (f : Ghosts F) (sender : Sender F f) (s : Site) (k : P.Map) (es : List Equation) → s.role ≡ sender.role →
+    s.loads ≡ sender.loads → ((r : Ref) → find s.equations r ≡ find (k ++ map equation_of es) r)
     → f.map sender.facts.now ≡ k → sender.more.now ≡ es → SendsAs f sender s
 sends_as f sender s k es role loads finds facts more = record {
   role = role;
@@ -113,7 +114,8 @@ is_clear : {A : Type 0} (o : Option A) → is_none o ≡ true → o ≡ None
 is_clear None e = refl
 is_clear (Some x) e = absurd cc
 
-module _ (g : Grammar) (role : ℕ) (Holds : Site → Type 0) (m : Q.Message) (held : ∥ ((s : Site) × Holds s) ∥₁) (role_is : (s : Site) → Holds s → s.role ≡ role) (fresh : (s : Site) → Holds s → IsFresh g s m) where
+module _ (g : Grammar) (role : ℕ) (Holds : Site → Type 0) (m : Q.Message) (held : ∥ ((s : Site) × Holds s) ∥₁) (role_is : (s : Site) → Holds s →
+    s.role ≡ role) (fresh : (s : Site) → Holds s → IsFresh g s m) where
   pub fresh_ok : message_ok g role m ≡ true
   fresh_ok = ∥∥₁_elim held (Bool-set _ _) (λ w. ap (λ r. message_ok g r m) (sym (role_is w.0 w.1)) ∙ (fresh w.0 w.1).ok)
 
@@ -124,7 +126,8 @@ module _ (g : Grammar) (role : ℕ) (Holds : Site → Type 0) (m : Q.Message) (h
   fresh_free sp c es same = is_clear (clash_with c es sp) (∥∥₁_elim held (Bool-set _ _) (λ w. ap is_none (same w.0 w.1 ∙ (fresh w.0 w.1).free)))
 
 -- a called node, and equations, may come
-pub call_fits : (g : Grammar) (role : ℕ) (m : Message) (n x : Node) (rs qs : List Ref) (load es : List Equation) → m.kind ≡ msg.Call n rs load → x ≡ n → qs ≡ rs → map equation_of es ≡ carried (kind_of g m.kind)
+pub call_fits : (g : Grammar) (role : ℕ) (m : Message) (n x : Node) (rs qs : List Ref) (load es : List Equation) → m.kind ≡ msg.Call n rs load →
+    x ≡ n → qs ≡ rs → map equation_of es ≡ carried (kind_of g m.kind)
     → message_ok g role (message_of g m) ≡ true → is_mine g role (message_of g m) ≡ true → MayBeCalled g role (S.call_of g x qs) × MayBeLearnt g role (map equation_of es)
 call_fits g role m n x rs qs load es e a b c ok mine =
     let loaded : map equation_of es ≡ map equation_of load = c ∙ ap (λ k. carried (kind_of g k)) e in
@@ -137,7 +140,8 @@ tell_fits g role m x load es e c ok mine =
     let loaded : map equation_of es ≡ equation_of x ∷ map equation_of load = c ∙ ap (λ k. carried (kind_of g k)) e in
     subst (MayBeLearnt g role) (sym loaded) (tell_may_come g role (message_of g m) (equation_of x) (map equation_of load) (ap (kind_of g) e) ok mine)
 
-pub call_clashes : (g : Grammar) (s : Site) (sp : S.Space) (kind : MsgKind) (n x : Node) (rs qs : List Ref) (load es : List Equation) → kind ≡ msg.Call n rs load → x ≡ n → qs ≡ rs → map equation_of es ≡ carried (kind_of g kind)
+pub call_clashes : (g : Grammar) (s : Site) (sp : S.Space) (kind : MsgKind) (n x : Node) (rs qs : List Ref) (load es : List Equation) →
+    kind ≡ msg.Call n rs load → x ≡ n → qs ≡ rs → map equation_of es ≡ carried (kind_of g kind)
     → space_in s ≡ sp → clash_with (Some (S.call_of g x qs)) (map equation_of es) sp ≡ clash s (kind_of g kind)
 call_clashes g s sp kind n x rs qs load es e a b c holds =
     let loaded : map equation_of es ≡ map equation_of load = c ∙ ap (λ k. carried (kind_of g k)) e in
@@ -166,7 +170,8 @@ judged_as g s m (Clashes c) h = in_conflict g s m (clash_of c) h.0 h.1 h.2
 judged_as g s m Repeat h = known_already g s m h.0 h.1 h.2 h.3
 judged_as g s m Fresh h = new_here g s m h
 
-same_answer : (g : Grammar) (s : Site) (m : Q.Message) (j : Judged) (r : Received) → answered j ≡ Some r → IsReceived r (told g s m j) × (after_message s (told g s m j) ≡ s) × (sent_for (told g s m j) ≡ [])
+same_answer : (g : Grammar) (s : Site) (m : Q.Message) (j : Judged) (r : Received) → answered j ≡ Some r → IsReceived r (told g s m j)
+    × (after_message s (told g s m j) ≡ s) × (sent_for (told g s m j) ≡ [])
 same_answer g s m BadName r e = let is : answer.BadName ≡ r = cc in (subst (λ x. IsReceived x Q.BadName) is tt, refl, refl)
 same_answer g s m NotMine r e = let is : answer.NotMine ≡ r = cc in (subst (λ x. IsReceived x Q.NotMine) is tt, refl, refl)
 same_answer g s m (Clashes c) r e = let is : answer.Conflict c.kept c.came ≡ r = cc in (subst (λ x. IsReceived x (Q.Conflict (content_of c.kept) (content_of c.came))) is (refl, refl), refl, refl)

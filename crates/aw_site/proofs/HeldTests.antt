@@ -20,12 +20,14 @@ here_as g n hs i h e at =
     let w = held_here g n hs i e in
     w.3 ∙ ap (λ k. Some (held_of g k)) (same_Some _ _ (sym w.1 ∙ at))
 
-pub here_free : (g : Grammar) (n : Node) (rs : List Ref) (hs : List Held) (i : ℕ) (h : Held) → place_in n hs ≡ Some i → slice_get hs i ≡ Some h → refs_eq h.inherited rs ≡ true → None ≡ call_clash (P.held_of n (all_of g hs)) (call_of g n rs) None
+pub here_free : (g : Grammar) (n : Node) (rs : List Ref) (hs : List Held) (i : ℕ) (h : Held) → place_in n hs ≡ Some i → slice_get hs i ≡ Some h →
+    refs_eq h.inherited rs ≡ true → None ≡ call_clash (P.held_of n (all_of g hs)) (call_of g n rs) None
 here_free g n rs hs i h e at same =
     sym (ap (λ b. cond b None (Some (record { kept = OfNode h.inherited; came = OfNode rs }))) same)
     ∙ ap (λ o. call_clash o (call_of g n rs) None) (sym (here_as g n hs i h e at))
 
-pub here_clash : (g : Grammar) (n : Node) (rs : List Ref) (hs : List Held) (i : ℕ) (h : Held) (kept came : List Ref) → place_in n hs ≡ Some i → slice_get hs i ≡ Some h → refs_eq h.inherited rs ≡ false → kept ≡ h.inherited → came ≡ rs
+pub here_clash : (g : Grammar) (n : Node) (rs : List Ref) (hs : List Held) (i : ℕ) (h : Held) (kept came : List Ref) → place_in n hs ≡ Some i →
+    slice_get hs i ≡ Some h → refs_eq h.inherited rs ≡ false → kept ≡ h.inherited → came ≡ rs
     → Some (record { kept = OfNode kept; came = OfNode came }) ≡ call_clash (P.held_of n (all_of g hs)) (call_of g n rs) None
 here_clash g n rs hs i h kept came e at other k c =
     (λ j. Some (record { kept = OfNode (k j); came = OfNode (c j) }))

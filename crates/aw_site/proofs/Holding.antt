@@ -44,10 +44,12 @@ module _ {F : Type 0} (f : Ghosts F) (space : Space F f) (subs : Subs) (loads : 
   equations_by = ap (λ (sp : S.Space). sp.equations) seen_by
 
   -- tests of a message
-  pub ok_by : (m : Message) (other : program.Grammar) (role : ℕ) (b : Bool) → other ≡ g → role ≡ space.role → b ≡ message_ok (grammar_of other) role (message_of (grammar_of other) m) → message_ok (grammar_of g) s.role (message_of (grammar_of g) m) ≡ b
+  pub ok_by : (m : Message) (other : program.Grammar) (role : ℕ) (b : Bool) → other ≡ g → role ≡ space.role → b ≡ message_ok (grammar_of other) role
+      (message_of (grammar_of other) m) → message_ok (grammar_of g) s.role (message_of (grammar_of g) m) ≡ b
   ok_by m other role b e r v = sym (v ∙ (λ i. message_ok (grammar_of (e i)) ((r ∙ sym h.role) i) (message_of (grammar_of (e i)) m)))
 
-  pub mine_by : (m : Message) (other : program.Grammar) (role : ℕ) (b : Bool) → other ≡ g → role ≡ space.role → b ≡ is_mine (grammar_of other) role (message_of (grammar_of other) m) → is_mine (grammar_of g) s.role (message_of (grammar_of g) m) ≡ b
+  pub mine_by : (m : Message) (other : program.Grammar) (role : ℕ) (b : Bool) → other ≡ g → role ≡ space.role → b ≡ is_mine (grammar_of other) role
+      (message_of (grammar_of other) m) → is_mine (grammar_of g) s.role (message_of (grammar_of g) m) ≡ b
   mine_by m other role b e r v = sym (v ∙ (λ i. is_mine (grammar_of (e i)) ((r ∙ sym h.role) i) (message_of (grammar_of (e i)) m)))
 
   pub clash_by : (kind lent : MsgKind) (nodes : List Node) (facts : F) (o : Option Clash) → lent ≡ kind → nodes ≡ space.held.items → facts ≡ space.facts

@@ -52,7 +52,8 @@ module _ (g : Grammar) where
   valid_load : (es : List Equation) → short_equations es ≡ true → load_ok g es ≡ true → IsValidLoad g es
   valid_load es short ok = let (x, y) = and_parts (nat_le (length es) 64) _ ok in (leb-true (length es) 64 x, valid_equations es short y)
 
-  call_cases : (c : Call) (o : Option ℕ) → sort_of g c.node ≡ o → is_short c.node ≡ true → short_refs c.inherited ≡ true → takes_as g o c.inherited ≡ true → refs_ok g c.inherited ≡ true → IsValidCall g c
+  call_cases : (c : Call) (o : Option ℕ) → sort_of g c.node ≡ o → is_short c.node ≡ true → short_refs c.inherited ≡ true →
+      takes_as g o c.inherited ≡ true → refs_ok g c.inherited ≡ true → IsValidCall g c
   call_cases c None e short refs takes ok = absurd cc
   call_cases c (Some s) e short refs takes ok = record {
     short = leb-true (length c.node.steps) 250 short;

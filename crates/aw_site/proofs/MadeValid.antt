@@ -61,7 +61,8 @@ module _ (gr : Grammar) (role : ℕ) (hs : List Held) (k : Map) (names : List Re
     part_ok s h rs u e m = each_ref g rs (and_parts _ (refs_ok g rs) (and_parts (ref_ok g s) _ (found_ok g k s (Is h rs) valid.equations e)).1).1 u m
 
     bound_ok : (u : Ref) → Member u t.rule.bound → ref_ok g u ≡ true
-    bound_ok = all_bound k (λ u. ref_ok g u ≡ true) part_ok 1 t.rule.rule.patterns t.held.inherited t.rule.bound (each_ref g t.held.inherited (refs_here g hs t.at t.held valid.nodes t.there)) t.rule.met
+    bound_ok = all_bound k (λ u. ref_ok g u ≡ true) part_ok 1 t.rule.rule.patterns t.held.inherited t.rule.bound
+        (each_ref g t.held.inherited (refs_here g hs t.at t.held valid.nodes t.there)) t.rule.met
 
     kid_ok : (c : Call) → Member c mk.calls → call_ok g c ≡ true
     kid_ok c m = ∥∥₁_elim gr.well_formed (Bool-set _ _) (λ w.

@@ -34,7 +34,8 @@ or_turned false true = refl
 or_turned false false = refl
 
 -- one more reference was asked for
-pub asked_one : (old new : Subs) (r : Ref) (asked : Ref → Bool) → ((x : Ref) → is_asked new.subs x ≡ (ref_eq r x || is_asked old.subs x)) → ShowsAsked old asked → ShowsAsked new (asked_too asked (r ∷ []))
+pub asked_one : (old new : Subs) (r : Ref) (asked : Ref → Bool) → ((x : Ref) → is_asked new.subs x ≡ (ref_eq r x || is_asked old.subs x)) →
+    ShowsAsked old asked → ShowsAsked new (asked_too asked (r ∷ []))
 asked_one old new r asked writes shows x =
     (λ i. shows x i || (ref_eq-sym x r i || false)) ∙ sym (or_turned (ref_eq r x) (is_asked old.subs x)) ∙ sym (writes x)
 
@@ -50,7 +51,8 @@ has_push x r [] = refl
 has_push x r (s ∷ rs) = has_cases (ref_eq x s) (has_ref x rs) (has_ref x (r ∷ [])) (has_ref x (rs ++ r ∷ [])) (has_push x r rs)
 
 -- one more of some references was asked for
-pub asked_next : (subs : Subs) (asked : Ref → Bool) (wanted : List Ref) (i : ℕ) (r : Ref) → i < length wanted → r ≡ get_or wanted i r → ShowsAsked subs (asked_too (asked_too asked (take i wanted)) (r ∷ []))
+pub asked_next : (subs : Subs) (asked : Ref → Bool) (wanted : List Ref) (i : ℕ) (r : Ref) → i < length wanted → r ≡ get_or wanted i r →
+    ShowsAsked subs (asked_too (asked_too asked (take i wanted)) (r ∷ []))
     → ShowsAsked subs (asked_too asked (take (i + 1) wanted))
 asked_next subs asked wanted i r l e h x =
     ap (λ rs. asked_too asked rs x) (take_here wanted i r l e)

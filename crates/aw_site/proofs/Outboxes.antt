@@ -80,5 +80,6 @@ module _ {F : Type 0} (f : Ghosts F) (old : Space F f) (subs : Subs) (outbox : L
   pub message_sends : (g : program.Grammar) (m : Message) → g ≡ gr
       → SendsWell (grammar_of gr) s (after_message s (receive (grammar_of g) s (message_of (grammar_of g) m))) (sent_for (receive (grammar_of g) s (message_of (grammar_of g) m)))
   message_sends g m same =
-      subst (λ (x : program.Grammar). SendsWell (grammar_of gr) s (after_message s (receive (grammar_of x) s (message_of (grammar_of x) m))) (sent_for (receive (grammar_of x) s (message_of (grammar_of x) m)))) (sym same)
+      subst (λ (x : program.Grammar). SendsWell (grammar_of gr) s (after_message s (receive (grammar_of x) s (message_of (grammar_of x) m)))
+      (sent_for (receive (grammar_of x) s (message_of (grammar_of x) m)))) (sym same)
       (message_outbox (grammar_of gr) s (message_of (grammar_of gr) m), message_valid (grammar_of gr) s equations_valid (message_of (grammar_of gr) m))

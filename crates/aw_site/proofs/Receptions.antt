@@ -27,7 +27,8 @@ use Rattle.aw_site.specs.Judged.{IsFresh}
 
 -- ---- the answer
 
-pub answered_as : (g : Grammar) (s : Site) (m : Message) (ok mine known : Bool) (c : Option Clash) → message_ok g s.role m ≡ ok → is_mine g s.role m ≡ mine → clash s m.kind ≡ c → is_repeat s m.kind ≡ known
+pub answered_as : (g : Grammar) (s : Site) (m : Message) (ok mine known : Bool) (c : Option Clash) → message_ok g s.role m ≡ ok →
+    is_mine g s.role m ≡ mine → clash s m.kind ≡ c → is_repeat s m.kind ≡ known
     → receive g s m ≡ cond (not ok) BadName (cond (not mine) NotMine (received_on c known (react g s m.kind)))
 answered_as g s m ok mine known c a b d e = λ i. cond (not (a i)) BadName (cond (not (b i)) NotMine (received_on (d i) (e i) (react g s m.kind)))
 
@@ -74,7 +75,8 @@ asks_of_role g (msg.Tell e load) ok = tt
 -- ---- what may come
 
 -- a valid call of a node of this role
-pub call_may_come : (g : Grammar) (role : ℕ) (m : Message) (c : Call) (load : List Equation) → m.kind ≡ Calls c load → message_ok g role m ≡ true → is_mine g role m ≡ true → MayBeCalled g role c × MayBeLearnt g role load
+pub call_may_come : (g : Grammar) (role : ℕ) (m : Message) (c : Call) (load : List Equation) → m.kind ≡ Calls c load → message_ok g role m ≡ true →
+    is_mine g role m ≡ true → MayBeCalled g role c × MayBeLearnt g role load
 call_may_come g role m c load e ok mine =
     let ok' = and_parts _ _ (subst (λ k. (nat_lt m.to g.roles && (names_ok g k && origin_ok g role k)) ≡ true) e ok) in
     let mine' = and_parts _ _ (subst (λ k. (nat_eq m.to role && about_ok g role k) ≡ true) e mine) in
@@ -85,7 +87,8 @@ call_may_come g role m c load e ok mine =
     (record { ok = call; here = here; child = steps; parent = not_true _ from }, record { ok = equations; others = others })
 
 -- valid equations of other roles
-pub tell_may_come : (g : Grammar) (role : ℕ) (m : Message) (x : Equation) (load : List Equation) → m.kind ≡ Tells x load → message_ok g role m ≡ true → is_mine g role m ≡ true → MayBeLearnt g role (x ∷ load)
+pub tell_may_come : (g : Grammar) (role : ℕ) (m : Message) (x : Equation) (load : List Equation) → m.kind ≡ Tells x load →
+    message_ok g role m ≡ true → is_mine g role m ≡ true → MayBeLearnt g role (x ∷ load)
 tell_may_come g role m x load e ok mine =
     let ok' = and_parts _ _ (subst (λ k. (nat_lt m.to g.roles && (names_ok g k && origin_ok g role k)) ≡ true) e ok) in
     let mine' = and_parts _ _ (subst (λ k. (nat_eq m.to role && about_ok g role k) ≡ true) e mine) in

@@ -30,5 +30,6 @@ pub answer_foreseen : (g : Grammar) (s : Site) (seen : Space) (c : Choice) (a : 
 answer_foreseen g s seen c a holds told = told ∙ ap (λ (sp : Space). told_of (outcome g sp c)) (sym holds) ∙ sym (answered g s c)
 
 -- a choice of which that answer is not that it is taken is not taken by that site
-pub refused_there : (g : Grammar) (s : Site) (seen : Space) (c : Choice) (a : Answer) (b : Bool) → space_in s ≡ seen → answer_of a ≡ told_of (outcome g seen c) → (IsTrue b ↔ (a ≡ answer.Taken)) → b ≡ false → answer_to (choose g s c) ≡ Taken → ⊥
+pub refused_there : (g : Grammar) (s : Site) (seen : Space) (c : Choice) (a : Answer) (b : Bool) → space_in s ≡ seen → answer_of a ≡ told_of
+    (outcome g seen c) → (IsTrue b ↔ (a ≡ answer.Taken)) → b ≡ false → answer_to (choose g s c) ≡ Taken → ⊥
 refused_there g s seen c a b holds told is refused = told_refused b a (answer_to (choose g s c)) is (answer_foreseen g s seen c a holds told) refused

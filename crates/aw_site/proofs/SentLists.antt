@@ -106,7 +106,8 @@ module _ (roles : ℕ) (some : 0 < roles) (small : roles < 2 ^ 64) where
   left_less = cases (nat_eq left roles) refl
     where
       cases : (b : Bool) → nat_eq left roles ≡ b → left < roles
-      cases true e = absurd (let both : bit_at left first ≡ bit_at roles first = ap (λ x. bit_at x first) (eqb-true left roles e) in let set = (bit_at-trailing_zeros w64 roles some small).1 in omega (arith, both, set, gone))
+      cases true e = absurd (let both : bit_at left first ≡ bit_at roles first = ap (λ x. bit_at x first) (eqb-true left roles e) in let set =
+          (bit_at-trailing_zeros w64 roles some small).1 in omega (arith, both, set, gone))
       cases false e =
           let other : left ≢ roles = λ s. both_ways (nat_eq left roles) e (ap (nat_eq left) (sym s) ∙ eq-eqb left left refl) in
           omega (arith, other, and_le_l roles (bit_not w64 (1 * 2 ^ first % 2 ^ 64)))
@@ -119,7 +120,8 @@ module _ (roles : ℕ) (some : 0 < roles) (small : roles < 2 ^ 64) where
       (λ j l other. ap (λ n. nat_eq n 1) (bit_at_clear_other w64 roles first lowest.0 j l other))
 
 -- the loop over the roles that watch
-pub told_next : (tell : ℕ → Message) (before after whole : List Message) (k : ℕ) (is js : List ℕ) → js ≡ k ∷ is → after ≡ before ++ tell k ∷ [] → before ++ map tell js ≡ whole → after ++ map tell is ≡ whole
+pub told_next : (tell : ℕ → Message) (before after whole : List Message) (k : ℕ) (is js : List ℕ) → js ≡ k ∷ is → after ≡ before ++ tell k ∷ [] →
+    before ++ map tell js ≡ whole → after ++ map tell is ≡ whole
 told_next tell before after whole k is js e a b =
     ap (λ ys. ys ++ map tell is) a
     ∙ append_assoc before (tell k ∷ []) (map tell is)
@@ -136,7 +138,8 @@ one_more xs zs = ap (λ ys. ys ++ zs) (sym (append-nil xs))
 pub tells_split : (g : Grammar) (s : Site) (e : Equation) (es : List Equation) → tells g s (e ∷ es) ≡ tells g s (e ∷ []) ++ tells g s es
 tells_split g s e es = one_more (map (tell g s e) (watchers_from 64 0 (s.watches e.left))) (tells g s es)
 
-pub tells_one : (g : Grammar) (s : Site) (e : Equation) (before after : List Message) → after ≡ before ++ map (tell g s e) (watchers_from 64 0 (s.watches e.left)) → after ≡ before ++ tells g s (e ∷ [])
+pub tells_one : (g : Grammar) (s : Site) (e : Equation) (before after : List Message) → after ≡ before ++ map (tell g s e)
+    (watchers_from 64 0 (s.watches e.left)) → after ≡ before ++ tells g s (e ∷ [])
 tells_one g s e before after p = p ∙ ap (λ ys. before ++ ys) (sym (append-nil (map (tell g s e) (watchers_from 64 0 (s.watches e.left)))))
 
 pub push_map : {A M : Type 0} (f : A → M) (xs ys : List A) (m : A) (z : M) → ys ≡ xs ++ m ∷ [] → f m ≡ z → map f ys ≡ map f xs ++ z ∷ []

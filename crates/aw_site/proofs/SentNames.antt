@@ -27,7 +27,8 @@ pub refs_append : (g : Grammar) (rs ss : List Ref) → refs_ok g rs ≡ true →
 refs_append g [] ss a b = b
 refs_append g (r ∷ rs) ss a b = let (x, y) = and_parts (ref_ok g r) _ a in and_from _ _ x (refs_append g rs ss y b)
 
-insert_cases : (g : Grammar) (a b : Bool) (r s : Ref) (ss ts : List Ref) → ref_ok g r ≡ true → refs_ok g (s ∷ ss) ≡ true → refs_ok g ts ≡ true → refs_ok g (cond a (r ∷ s ∷ ss) (cond b (s ∷ ss) (s ∷ ts))) ≡ true
+insert_cases : (g : Grammar) (a b : Bool) (r s : Ref) (ss ts : List Ref) → ref_ok g r ≡ true → refs_ok g (s ∷ ss) ≡ true → refs_ok g ts ≡ true →
+    refs_ok g (cond a (r ∷ s ∷ ss) (cond b (s ∷ ss) (s ∷ ts))) ≡ true
 insert_cases g true b r s ss ts here all more = and_from _ _ here all
 insert_cases g false true r s ss ts here all more = all
 insert_cases g false false r s ss ts here all more = and_from _ _ (and_parts (ref_ok g s) _ all).0 more

@@ -69,7 +69,8 @@ module _ (g : Grammar) (s : Site) (ok : equations_ok g s.equations ≡ true) whe
   react_valid : (kind : Kind) → names_ok g kind ≡ true → all_sendable g (react g s kind).sent ≡ true
   react_valid (Calls c load) names =
       let (call, es) = and_parts (call_ok g c) (equations_ok g load) names in
-      asked_valid (record s { held = add_held (held_of c.node s.held) c s.held; equations = add_all s.equations load }) s.role (c.inherited ++ all_mentions load) (refs_append g c.inherited (all_mentions load) (and_parts _ (refs_ok g c.inherited) call).1 (mentioned g load es))
+      asked_valid (record s { held = add_held (held_of c.node s.held) c s.held; equations = add_all s.equations load }) s.role
+      (c.inherited ++ all_mentions load) (refs_append g c.inherited (all_mentions load) (and_parts _ (refs_ok g c.inherited) call).1 (mentioned g load es))
   react_valid (Asks r from) names = back_valid g s ok r from
   react_valid (Tells e load) names = asked_valid (record s { equations = add_all s.equations (e ∷ load) }) s.role (all_mentions (e ∷ load)) (mentioned g (e ∷ load) names)
 
@@ -92,7 +93,8 @@ react_outbox g s (Asks r from) = refl
 react_outbox g s (Tells e load) = refl
 
 outbox_cases : (s : Site) (valid mine known : Bool) (c : Option Clash) (x : Reaction) → x.site.outbox ≡ s.outbox ++ x.sent →
-    (after_message s (cond (not valid) BadName (cond (not mine) NotMine (received_on c known x)))).outbox ≡ s.outbox ++ sent_for (cond (not valid) BadName (cond (not mine) NotMine (received_on c known x)))
+    (after_message s (cond (not valid) BadName (cond (not mine) NotMine (received_on c known x)))).outbox ≡ s.outbox ++ sent_for
+    (cond (not valid) BadName (cond (not mine) NotMine (received_on c known x)))
 outbox_cases s false mine known c x e = sym (append-nil s.outbox)
 outbox_cases s true false known c x e = sym (append-nil s.outbox)
 outbox_cases s true true known (Some c) x e = sym (append-nil s.outbox)

@@ -49,7 +49,8 @@ walk_more_on n g s seen e rs new (Some d) q h =
     ∙ ap (λ ys. equation_of e ∷ walk n g s (e.left ∷ seen) ys) (sym h.1)
 
 -- one equation more
-pub walk_more : (n : ℕ) (g : Grammar) (s : Site) (seen : List Ref) (e : Equation) (rs new : List Ref) → Gives (next_given g s seen rs) (Some e) new → walk (suc n) g s seen rs ≡ equation_of e ∷ walk n g s (e.left ∷ seen) new
+pub walk_more : (n : ℕ) (g : Grammar) (s : Site) (seen : List Ref) (e : Equation) (rs new : List Ref) → Gives (next_given g s seen rs) (Some e) new →
+    walk (suc n) g s seen rs ≡ equation_of e ∷ walk n g s (e.left ∷ seen) new
 walk_more n g s seen e rs new h = walk_more_on n g s seen e rs new (next_given g s seen rs) refl h
 
 walk_end_on : (n : ℕ) (g : Grammar) (s : Site) (seen rs new : List Ref) (o : Option Given) → next_given g s seen rs ≡ o → Gives o None new → walk (suc n) g s seen rs ≡ []
@@ -88,7 +89,8 @@ walked_end i most g s load first rs new whole l h q =
     ∙ q
 
 -- a reference that gave its equation
-pub gave : (given later : Option Given) (r : Ref) (o : Option Body) (b : Body) (rs new : List Ref) → given ≡ given_on true r (option_map body_of o) rs later → o ≡ Some b → new ≡ mentions (body_of b) ++ rs
+pub gave : (given later : Option Given) (r : Ref) (o : Option Body) (b : Body) (rs new : List Ref) → given ≡ given_on true r (option_map body_of o) rs
+    later → o ≡ Some b → new ≡ mentions (body_of b) ++ rs
     → Gives given (Some (record { left = r; body = b })) new
 gave given later r o b rs new e s p =
     subst (λ d. Gives d (Some (record { left = r; body = b })) new) (sym (e ∙ ap (λ o. given_on true r (option_map body_of o) rs later) s)) (refl, p)

@@ -39,6 +39,7 @@ module _ (g : Grammar) (p : Placing) (hs : List Held) where
     met_same same = sym (ap (λ b. Some (cond b Same (Conflict h.inherited p.inherited))) same) ∙ ap (λ o. met o (placed_call g p)) (sym here_as)
 
     -- a node that is held with others
-    pub met_other : (kept came : List Ref) → refs_eq h.inherited p.inherited ≡ false → kept ≡ h.inherited → came ≡ p.inherited → Some (Conflict kept came) ≡ met (P.held_of p.node (all_of g hs)) (placed_call g p)
+    pub met_other : (kept came : List Ref) → refs_eq h.inherited p.inherited ≡ false → kept ≡ h.inherited → came ≡ p.inherited →
+        Some (Conflict kept came) ≡ met (P.held_of p.node (all_of g hs)) (placed_call g p)
     met_other kept came other k c =
         (λ j. Some (Conflict (k j) (c j))) ∙ sym (ap (λ b. Some (cond b Same (Conflict h.inherited p.inherited))) other) ∙ ap (λ o. met o (placed_call g p)) (sym here_as)

@@ -45,7 +45,8 @@ missing_cost : (g : Grammar) (p : Option Placing) (hs : List Held) → rules_if 
 missing_cost g None hs = omega arith
 missing_cost g (Some p) hs = node_cost g p hs (place_in p.node hs) refl
 
-pub taking_costs : (g : Grammar) (p : Option Placing) (hs : List Held) (s : Space) (es : List Equation) → s.held ≡ all_of g hs → taken_cost g (missing_node p hs) hs s.equations es ≤ taking_cost g (option_map (placed_call g) p) es s
+pub taking_costs : (g : Grammar) (p : Option Placing) (hs : List Held) (s : Space) (es : List Equation) → s.held ≡ all_of g hs →
+    taken_cost g (missing_node p hs) hs s.equations es ≤ taking_cost g (option_map (placed_call g) p) es s
 taking_costs g p hs s es is =
     let view : all_of g (with_node (missing_node p hs) hs) ≡ with_call (option_map (placed_call g) p) s.held = view_missing g p hs ∙ ap (with_call (option_map (placed_call g) p)) (sym is) in
     omega (

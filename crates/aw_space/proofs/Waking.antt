@@ -71,7 +71,8 @@ one_late k l e is r other = (refl, λ none. ap (λ m. find m r) is ∙ find-righ
 
 pub grown_by : (g : Grammar) (hs : List Held) (k l : Map) (names : List Ref) (e : Equation) (kept : Kept) → l ≡ k ++ e ∷ [] → IsKept g hs k names kept → IsKeptBut g hs l names (e.left ∷ []) kept
 grown_by g hs k l names e kept is w =
-    kept_grown k l names [] (e.left ∷ []) (λ r b f. subst (λ m. find m r ≡ Some b) (sym is) (find-left_more k (e ∷ []) r b f)) (one_late k l e is) g hs kept.numbers.items kept.records.items kept.work.waiting w
+    kept_grown k l names [] (e.left ∷ []) (λ r b f. subst (λ m. find m r ≡ Some b) (sym is) (find-left_more k (e ∷ []) r b f)) (one_late k l e is) g
+    hs kept.numbers.items kept.records.items kept.work.waiting w
 
 -- ---- left sides in turn
 
@@ -112,22 +113,26 @@ none_there : (es : List program.Equation) (r : Ref) → is_named (map left_of es
 none_there [] r e = refl
 none_there (x ∷ xs) r e = by (ref_eq r x.left) (none_there xs r) e
   where
-    by : (b : Bool) → (is_named (map left_of xs) r ≡ false → find (map equation_of xs) r ≡ None) → (b || is_named (map left_of xs) r) ≡ false → cond b (Some (equation_of x).body) (find (map equation_of xs) r) ≡ None
+    by : (b : Bool) → (is_named (map left_of xs) r ≡ false → find (map equation_of xs) r ≡ None) → (b || is_named (map left_of xs) r) ≡ false →
+        cond b (Some (equation_of x).body) (find (map equation_of xs) r) ≡ None
     by true go e = absurd cc
     by false go e = go e
 
 pub all_late : (k l : Map) (es : List program.Equation) → l ≡ k ++ map equation_of es → AreLate k l [] (map left_of es)
 all_late k l es is r other = (refl, λ none. ap (λ m. find m r) is ∙ find-right_more k (map equation_of es) r none ∙ none_there es r other)
 
-pub grown_by_all : (g : Grammar) (hs : List Held) (k l : Map) (names : List Ref) (es : List program.Equation) (kept : Kept) → l ≡ k ++ map equation_of es → IsKept g hs k names kept → IsKeptBut g hs l names (map left_of es) kept
+pub grown_by_all : (g : Grammar) (hs : List Held) (k l : Map) (names : List Ref) (es : List program.Equation) (kept : Kept) →
+    l ≡ k ++ map equation_of es → IsKept g hs k names kept → IsKeptBut g hs l names (map left_of es) kept
 grown_by_all g hs k l names es kept is w =
-    kept_grown k l names [] (map left_of es) (λ r b f. subst (λ m. find m r ≡ Some b) (sym is) (find-left_more k (map equation_of es) r b f)) (all_late k l es is) g hs kept.numbers.items kept.records.items kept.work.waiting w
+    kept_grown k l names [] (map left_of es) (λ r b f. subst (λ m. find m r ≡ Some b) (sym is) (find-left_more k (map equation_of es) r b f))
+    (all_late k l es is) g hs kept.numbers.items kept.records.items kept.work.waiting w
 
 found_in : (es : List program.Equation) (i : ℕ) (e : program.Equation) → slice_get es i ≡ Some e → is_some (find (map equation_of es) e.left) ≡ true
 found_in [] i e here = absurd cc
 found_in (x ∷ xs) zero e here =
     let same : x ≡ e = cc in
-    ap (λ (y : program.Equation). is_some (find (map equation_of (x ∷ xs)) y.left)) (sym same) ∙ ap (λ b. is_some (cond b (Some (equation_of x).body) (find (map equation_of xs) x.left))) (ref_eq-self x.left)
+    ap (λ (y : program.Equation). is_some (find (map equation_of (x ∷ xs)) y.left)) (sym same)
+    ∙ ap (λ b. is_some (cond b (Some (equation_of x).body) (find (map equation_of xs) x.left))) (ref_eq-self x.left)
 found_in (x ∷ xs) (suc i) e here = by (ref_eq e.left x.left) (found_in xs i e here)
   where
     by : (b : Bool) → is_some (find (map equation_of xs) e.left) ≡ true → is_some (cond b (Some (equation_of x).body) (find (map equation_of xs) e.left)) ≡ true
@@ -155,7 +160,8 @@ sum_lefts most (x ∷ xs) =
     omega (arith, sum_by-cons most x.left (map left_of xs), sum_by-cons (λ (e : Equation). most e.left) (equation_of x) (map equation_of xs), sum_lefts most xs)
 
 -- where a node was closed, no more rules wait for a reference than the worklist showed
-pub closed_bound : (g : Grammar) (hs : List Held) (k l : Map) (names : List Ref) (old new : Kept) → IsNamedOnce names → ((q : ℕ) → waiting_at q new.work.waiting ≤ waiting_at q old.work.waiting) → IsKept g hs k names old →
+pub closed_bound : (g : Grammar) (hs : List Held) (k l : Map) (names : List Ref) (old new : Kept) → IsNamedOnce names →
+    ((q : ℕ) → waiting_at q new.work.waiting ≤ waiting_at q old.work.waiting) → IsKept g hs k names old →
     IsBound l names new (λ r. waiting_on r (site_worklist g k (all_of g hs)))
 closed_bound g hs k l names old new once fewer w slot r here known =
     omega (arith, fewer slot, pairs_wait names once slot r here g k hs old.numbers.items old.records.items old.work.waiting w)

@@ -35,20 +35,23 @@ later_kept : (i : ℕ) (o : Option (ℕ × FaceKind)) (later new : Option (ℕ �
 later_kept i None later new e h = h e
 later_kept i (Some f) later new e h = cc
 
-rule_more : (sorts : List P.Sort) (offers : List ℕ) (uses : List Using) (i : ℕ) (rs : List P.Rule) (r : P.Rule) → rules_fault sorts offers uses i rs ≡ None → rule_fault sorts offers uses r ≡ None → rules_fault sorts offers uses i (rs ++ r ∷ []) ≡ None
+rule_more : (sorts : List P.Sort) (offers : List ℕ) (uses : List Using) (i : ℕ) (rs : List P.Rule) (r : P.Rule) → rules_fault sorts offers uses i
+    rs ≡ None → rule_fault sorts offers uses r ≡ None → rules_fault sorts offers uses i (rs ++ r ∷ []) ≡ None
 rule_more sorts offers uses i [] r e h = ap (λ o. at_rule i o None) h
 rule_more sorts offers uses i (x ∷ xs) r e h = later_kept i (rule_fault sorts offers uses x) _ _ e (λ k. rule_more sorts offers uses (suc i) xs r k h)
 
 no_rules_kept : (s : Spec) → length s.declared.rules ≡ 0 → IsKept s
 no_rules_kept s h = ap (λ rs. rules_fault (sorts_of s.declared.sorts) s.offers s.uses 0 (map rule_in rs)) (nil_from_length s.declared.rules h)
 
-early : (s after : Spec) (line : Line) (before : ℕ) → says s line ≡ On after → stage_of line < rules_stage → before ≤ stage_of line → (before < rules_stage → length s.declared.rules ≡ 0) → IsGood (record { spec = after; stage = stage_of line })
+early : (s after : Spec) (line : Line) (before : ℕ) → says s line ≡ On after → stage_of line < rules_stage → before ≤ stage_of line →
+    (before < rules_stage → length s.declared.rules ≡ 0) → IsGood (record { spec = after; stage = stage_of line })
 early s after line before e h le none =
     let here : before < rules_stage = omega arith in
     let still = keeps_no_rules s after line e h (none here) in
     (no_rules_kept after still, λ k. still)
 
-rule_kept : (s after : Spec) (r : WrittenRule) (kind : Option DeclKind) (o : Option (ℕ × FaceKind)) → IsKept s → rule_fault (sorts_of s.declared.sorts) s.offers s.uses (entry_of s.declared r).rule ≡ o →
+rule_kept : (s after : Spec) (r : WrittenRule) (kind : Option DeclKind) (o : Option (ℕ × FaceKind)) → IsKept s →
+    rule_fault (sorts_of s.declared.sorts) s.offers s.uses (entry_of s.declared r).rule ≡ o →
     keeping s r (declaring s kind (with_rule s.declared r)) ≡ On after → IsKept after
 rule_kept s after r (Some kind) o k h e = cc
 rule_kept s after r None (Some fault) k h e =
@@ -60,7 +63,8 @@ rule_kept s after r None None k h e =
     (ap (rules_fault (sorts_of s.declared.sorts) s.offers s.uses 0) (map-append rule_in s.declared.rules (entry_of s.declared r ∷ []))
     ∙ rule_more (sorts_of s.declared.sorts) s.offers s.uses 0 (map rule_in s.declared.rules) (entry_of s.declared r).rule k h)
 
-said_good : (s after : Spec) (line : Line) (before : ℕ) → says s line ≡ On after → before ≤ stage_of line → IsGood (record { spec = s; stage = before }) → IsGood (record { spec = after; stage = stage_of line })
+said_good : (s after : Spec) (line : Line) (before : ℕ) → says s line ≡ On after → before ≤ stage_of line →
+    IsGood (record { spec = s; stage = before }) → IsGood (record { spec = after; stage = stage_of line })
 said_good s after (RoleLine name) before e le good = early s after (RoleLine name) before e (omega arith) le good.1
 said_good s after (ConLine name arity) before e le good = early s after (ConLine name arity) before e (omega arith) le good.1
 said_good s after (SortLine name role takes gives) before e le good = early s after (SortLine name role takes gives) before e (omega arith) le good.1

@@ -18,14 +18,16 @@ use Rattle.aw_spec.specs.Reading.{Spec, Draft, Step, On, Wrong, Stop, says, stag
 abbrev pub Keeps : (Draft → Type 0) → Type 0
 Keeps P = (d : Draft) (after : Spec) (line : Line) → IsDeclared line → says d.spec line ≡ On after → d.stage ≤ stage_of line → P d → P (record { spec = after; stage = stage_of line })
 
-at_stage_keeps : (P : Draft → Type 0) → Keeps P → (d next : Draft) (line : Line) (x : Step) → IsDeclared line → says d.spec line ≡ x → d.stage ≤ stage_of line → P d → at_stage (stage_of line) x ≡ Next next → P next
+at_stage_keeps : (P : Draft → Type 0) → Keeps P → (d next : Draft) (line : Line) (x : Step) → IsDeclared line → says d.spec line ≡ x →
+    d.stage ≤ stage_of line → P d → at_stage (stage_of line) x ≡ Next next → P next
 at_stage_keeps P keeps d next line (On after) named h le here e =
     let same : ◌≡◌ {A = Draft} (record { spec = after; stage = stage_of line }) next = cc in
     subst P same (keeps d after line named h le here)
 at_stage_keeps P keeps d next line (Wrong kind) named h le here e = cc
 at_stage_keeps P keeps d next line (Stop loads) named h le here e = cc
 
-ordered_keeps : (P : Draft → Type 0) → Keeps P → (d next : Draft) (line : Line) (t : Bool) → IsDeclared line → nat_lt (stage_of line) d.stage ≡ t → P d → cond t (Fault Order) (at_stage (stage_of line) (says d.spec line)) ≡ Next next → P next
+ordered_keeps : (P : Draft → Type 0) → Keeps P → (d next : Draft) (line : Line) (t : Bool) → IsDeclared line → nat_lt (stage_of line) d.stage ≡ t →
+    P d → cond t (Fault Order) (at_stage (stage_of line) (says d.spec line)) ≡ Next next → P next
 ordered_keeps P keeps d next line true named h here e = cc
 ordered_keeps P keeps d next line false named h here e = at_stage_keeps P keeps d next line (says d.spec line) named refl (ltb-false (stage_of line) d.stage h) here e
 
@@ -43,13 +45,15 @@ line_keeps : (P : Draft → Type 0) → Keeps P → (d next : Draft) (bytes : Li
 line_keeps P keeps d next bytes true here e = let same : d ≡ next = cc in subst P same here
 line_keeps P keeps d next bytes false here e = lexed_keeps P keeps d next bytes (tokens_of bytes) refl here e
 
-from_line : (P : Draft → Type 0) (Q : Spec → Type 0) → ((d : Draft) → P d → Q d.spec) → (d : Draft) (n m : ℕ) (s : Spec) (loads : Bool) (x : LineRead) (more : Draft → Reading) → P d → ((next : Draft) → x ≡ Next next → more next ≡ Good s m loads → Q s) →
+from_line : (P : Draft → Type 0) (Q : Spec → Type 0) → ((d : Draft) → P d → Q d.spec) → (d : Draft) (n m : ℕ) (s : Spec) (loads : Bool) (x : LineRead)
+    (more : Draft → Reading) → P d → ((next : Draft) → x ≡ Next next → more next ≡ Good s m loads → Q s) →
     after_line d n x more ≡ Good s m loads → Q s
 from_line P Q last d n m s loads (Next next) more here later e = later next refl e
 from_line P Q last d n m s loads (Fault kind) more here later e = cc
 from_line P Q last d n m s loads (End asked) more here later e = let same : d.spec ≡ s = cc in subst Q same (last d here)
 
-pub reading_keeps : (P : Draft → Type 0) (Q : Spec → Type 0) → Keeps P → ((d : Draft) → P d → Q d.spec) → (d : Draft) (n m : ℕ) (s : Spec) (loads : Bool) (lines : List (List ℕ)) → P d → read_lines d n lines ≡ Good s m loads → Q s
+pub reading_keeps : (P : Draft → Type 0) (Q : Spec → Type 0) → Keeps P → ((d : Draft) → P d → Q d.spec) → (d : Draft) (n m : ℕ) (s : Spec)
+    (loads : Bool) (lines : List (List ℕ)) → P d → read_lines d n lines ≡ Good s m loads → Q s
 reading_keeps P Q keeps last d n m s loads [] here e = let same : d.spec ≡ s = cc in subst Q same (last d here)
 reading_keeps P Q keeps last d n m s loads (line ∷ lines) here e =
     from_line P Q last d (suc n) m s loads (read_line d line) (λ next. read_lines next (suc n) lines) here

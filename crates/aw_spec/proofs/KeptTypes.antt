@@ -1,5 +1,6 @@
 -- The types and the dependences of a specification that was read fit what it declares.
-use Rattle.std.proofs.Common.{codes, ◌≡◌, ◌≢◌, ℕ, zero, suc, ◌+◌, ◌<◌, ◌≤◌, nat_eq, nat_le, refl, sym, ap, ◌∙◌, subst, Bool, true, false, not, ◌&&◌, ◌||◌, List, [], ◌∷◌, ◌++◌, map, length, Option, Some, None, Result, Ok, Err, IfOk, is_some, arith, length-append}
+use Rattle.std.proofs.Common.{codes, ◌≡◌, ◌≢◌, ℕ, zero, suc, ◌+◌, ◌<◌, ◌≤◌, nat_eq, nat_le, refl, sym, ap, ◌∙◌, subst, Bool, true, false, not, ◌&&◌}
+use Rattle.std.proofs.Common.{◌||◌, List, [], ◌∷◌, ◌++◌, map, length, Option, Some, None, Result, Ok, Err, IfOk, is_some, arith, length-append}
 use Rattle.std.proofs.lemmas.List.{map-append, length-map}
 use Rattle.std.proofs.lemmas.Bool.{and_parts, and_from, both_ways, eq-eqb, eqb-true, leb-true, leb-false}
 use Rattle.std.specs.List.{list_any}
@@ -30,7 +31,9 @@ use Rattle.aw_term_reader.proofs.Steps.{bound}
 use Rattle.aw_spec.specs.Lines.{Line, RoleLine, ConLine, SortLine, StartLine, OfferLine, UseLine, TypeLine, ShapeLine, CarryLine, DependsLine, FreeLine, RuleLine, ScheduleLine}
 use Rattle.aw_spec.specs.TypeLines.{type_names, types_named, shape_named, carry_named, is_other_arity, are_other_counts, are_no_positions, is_position}
 use Rattle.aw_spec.specs.TypesFit.{Alongside, is_empty, ShapeFits, CarryFits, IsOfSort, AreTwo, arities_in, counts_in, TypesFit}
-use Rattle.aw_spec.specs.Reading.{Spec, Draft, On, declaring, if_kept, keeping, says, with_no_shape, with_no_carry, offer_tests, with_offer, use_tests, with_use, type_tests, with_type, con_place, sort_place, shape_tests, with_shape, carry_tests, with_carry, depends_tests, with_depends, free_tests, with_free, no_draft, Good, specification}
+use Rattle.aw_spec.specs.Reading.{Spec, Draft, On, declaring, if_kept, keeping, says, with_no_shape, with_no_carry, offer_tests, with_offer, use_tests}
+use Rattle.aw_spec.specs.Reading.{with_use, type_tests, with_type, con_place, sort_place, shape_tests, with_shape, carry_tests, with_carry}
+use Rattle.aw_spec.specs.Reading.{depends_tests, with_depends, free_tests, with_free, no_draft, Good, specification}
 use Rattle.aw_spec.specs.Views.{spec_seen}
 use Rattle.aw_spec.proofs.KeptLines.{reading_keeps}
 use Rattle.aw_spec.proofs.Tested.{tested_on}
@@ -82,8 +85,10 @@ sort_fits s r fit =
       named = fit.named;
       differ = fit.differ;
       shapes = fit.shapes;
-      carries = subst (λ cs. Alongside (CarryFits n) cs (s.types.carries ++ None ∷ [])) (sym more) (alongside_push (CarryFits n) (counts_in s.declared) s.types.carries (r.takes, r.gives) None fit.carries tt);
-      depends = subst (λ cs. Each (IsOfSort cs) s.depends) (sym more) (each_map (IsOfSort (counts_in s.declared)) (IsOfSort (counts_in s.declared ++ one)) s.depends (λ d h. of_more (counts_in s.declared) one d h) fit.depends);
+      carries = subst (λ cs. Alongside (CarryFits n) cs (s.types.carries ++ None ∷ [])) (sym more)
+          (alongside_push (CarryFits n) (counts_in s.declared) s.types.carries (r.takes, r.gives) None fit.carries tt);
+      depends = subst (λ cs. Each (IsOfSort cs) s.depends) (sym more) (each_map (IsOfSort (counts_in s.declared))
+          (IsOfSort (counts_in s.declared ++ one)) s.depends (λ d h. of_more (counts_in s.declared) one d h) fit.depends);
       declared_once = fit.declared_once;
     }
 
@@ -173,7 +178,8 @@ shape_fits s (Some i) (Some x) within numbers none fit =
       few_types = fit.few_types;
       named = fit.named;
       differ = fit.differ;
-      shapes = alongside_set (ShapeFits n) (arities_in s.declared) s.types.shapes i c.arity (Some x) fit.shapes (get_map arity s.declared.cons i c found.1) (same_arity _ c x found.1 none.1.1.0, below.0, below.1);
+      shapes = alongside_set (ShapeFits n) (arities_in s.declared) s.types.shapes i c.arity (Some x) fit.shapes
+          (get_map arity s.declared.cons i c found.1) (same_arity _ c x found.1 none.1.1.0, below.0, below.1);
       carries = fit.carries;
       depends = fit.depends;
       declared_once = fit.declared_once;
@@ -230,7 +236,8 @@ depends_fits s (Some k) i j within none fit =
       shapes = fit.shapes;
       carries = fit.carries;
       depends = each_push (IsOfSort (counts_in s.declared)) s.depends new fit.depends (counts c, get_map counts s.declared.sorts k c found.1, at.0.0, at.0.1, at.1.0, at.1.1);
-      declared_once = later_push AreTwo s.depends new fit.declared_once (each_untested (λ (t : Triple). nat_eq t.sort k && (nat_eq t.i i && nat_eq t.j j)) (λ t. AreTwo t new) (λ t h. is_apart t k i j h) s.depends none.0);
+      declared_once = later_push AreTwo s.depends new fit.declared_once
+          (each_untested (λ (t : Triple). nat_eq t.sort k && (nat_eq t.i i && nat_eq t.j j)) (λ t. AreTwo t new) (λ t h. is_apart t k i j h) s.depends none.0);
     }
 
 -- each line

@@ -44,7 +44,8 @@ kept : (s : Spec) (r : WrittenRule) (o : Option (ℕ × FaceKind)) → rule_kind
 kept s r o e h = ap (λ k. keeping s r (declaring s k (with_rule s.declared r))) e ∙ ap (if_kept (record s { declared = with_rule s.declared r })) h
 
 -- the same of a draft whose grammar was taken out and declares the rule now, by what is told of its last rule
-last_kept : (d : Draft) (taken g : Grammar) (r : WrittenRule) (o : Option (ℕ × FaceKind)) → taken ≡ d.grammar → Added (rule_kind (declarations_of taken) r) (with_rule (declarations_of taken) r) (Ok g) →
+last_kept : (d : Draft) (taken g : Grammar) (r : WrittenRule) (o : Option (ℕ × FaceKind)) → taken ≡ d.grammar →
+    Added (rule_kind (declarations_of taken) r) (with_rule (declarations_of taken) r) (Ok g) →
     ((front : List Entry) (e : Entry) → map (entry g.sorts) g.rules ≡ front ++ e ∷ [] → o ≡ rule_fault (sorts_of g.sorts) d.faces.offers d.faces.uses e.rule) →
     says (spec_so_far d) (RuleLine r) ≡ if_kept (record (spec_so_far d) { declared = declarations_of g }) o
 last_kept d taken g r o out declared told =
@@ -57,7 +58,8 @@ last_kept d taken g r o out declared told =
     ∙ ap (λ (x : Declarations). if_kept (record s { declared = x }) o) (sym added.1)
 
 -- the same where that grammar was put in the place of the one that was taken out
-pub put_kept : (d : Draft) (taken g put : Grammar) (r : WrittenRule) (o : Option (ℕ × FaceKind)) → taken ≡ d.grammar → Added (rule_kind (declarations_of taken) r) (with_rule (declarations_of taken) r) (Ok g) → put ≡ g →
+pub put_kept : (d : Draft) (taken g put : Grammar) (r : WrittenRule) (o : Option (ℕ × FaceKind)) → taken ≡ d.grammar →
+    Added (rule_kind (declarations_of taken) r) (with_rule (declarations_of taken) r) (Ok g) → put ≡ g →
     ((front : List Entry) (e : Entry) → map (entry put.sorts) put.rules ≡ front ++ e ∷ [] → o ≡ rule_fault (sorts_of put.sorts) d.faces.offers d.faces.uses e.rule) →
     says (spec_so_far d) (RuleLine r) ≡ if_kept (record (spec_so_far d) { declared = declarations_of put }) o
 put_kept d taken g put r o out declared same told =

@@ -1,11 +1,13 @@
 -- Reading on by one line.
-use Rattle.std.proofs.Common.{◌≡◌, ℕ, zero, suc, ◌+◌, ◌-◌, ◌≤◌, refl, sym, ap, ◌∙◌, add-one, Bool, true, false, cond, ◌==◌, List, [], ◌∷◌, drop, length, length-drop, arith, Option, Some, None, option_map, unwrap_or}
+use Rattle.std.proofs.Common.{◌≡◌, ℕ, zero, suc, ◌+◌, ◌-◌, ◌≤◌, refl, sym, ap, ◌∙◌, add-one, Bool, true, false, cond, ◌==◌, List, [], ◌∷◌, drop, length}
+use Rattle.std.proofs.Common.{length-drop, arith, Option, Some, None, option_map, unwrap_or}
 use Rattle.std.proofs.lemmas.List.{drop-drop, drop_all}
 use Rattle.aw_spelling.specs.Spelling.{cut, with_front}
 use Rattle.aw_lex.specs.Lines.{first_line}
 use Rattle.aw_spec.specs.Reading.{Draft, LineRead, Next, read_line, after_line, read_lines}
 
-one_read : (d : Draft) (n : ℕ) (line : List ℕ) (left lines : List (List ℕ)) (r : LineRead) → left ≡ line ∷ lines → read_line d line ≡ r → read_lines d n left ≡ after_line d (suc n) r (λ next. read_lines next (suc n) lines)
+one_read : (d : Draft) (n : ℕ) (line : List ℕ) (left lines : List (List ℕ)) (r : LineRead) → left ≡ line ∷ lines → read_line d line ≡ r →
+    read_lines d n left ≡ after_line d (suc n) r (λ next. read_lines next (suc n) lines)
 one_read d n line left lines r e h = ap (read_lines d n) e ∙ ap (λ x. after_line d (suc n) x (λ next. read_lines next (suc n) lines)) h
 
 pub next_read : (d next : Draft) (n : ℕ) (line : List ℕ) (left lines : List (List ℕ)) → left ≡ line ∷ lines → read_line d line ≡ Next next → read_lines next (n + 1) lines ≡ read_lines d n left
@@ -47,7 +49,8 @@ cut_behind mark (b ∷ bs) halves e = by_test (λ x k. cut_behind mark bs x k) (
         let found = later h refl in
         (suc found.0, sym (ap (λ (p : List ℕ × List ℕ). p.1) same) ∙ found.1)
 
-    by_test : ((x : List ℕ × List ℕ) → cut mark bs ≡ Some x → IsBehind x.1 bs) → (t : Bool) → cond t (Some ([], bs)) (option_map (with_front b) (cut mark bs)) ≡ Some halves → IsBehind halves.1 (b ∷ bs)
+    by_test : ((x : List ℕ × List ℕ) → cut mark bs ≡ Some x → IsBehind x.1 bs) → (t : Bool) → cond t (Some ([], bs))
+        (option_map (with_front b) (cut mark bs)) ≡ Some halves → IsBehind halves.1 (b ∷ bs)
     by_test later true h =
         let same : ◌≡◌ {A = List ℕ × List ℕ} ([], bs) halves = cc in
         (1, sym (ap (λ (p : List ℕ × List ℕ). p.1) same))

@@ -18,7 +18,8 @@ use Rattle.aw_spec.specs.Views.{spec_seen}
 use Rattle.aw_spec.proofs.TypeSteps.{alongside_at, alongside_length, alongside_each, mapped_at}
 
 -- what stands at a place of a mapped list
-at_mapped : {A B : Type 0} (f : A → B) (xs : List (Option A)) (i : ℕ) (o : Option A) → slice_get xs i ≡ Some o → option_and_then T.same (slice_get (map (λ (x : Option A). option_map f x) xs) i) ≡ option_map f o
+at_mapped : {A B : Type 0} (f : A → B) (xs : List (Option A)) (i : ℕ) (o : Option A) → slice_get xs i ≡ Some o → option_and_then T.same
+    (slice_get (map (λ (x : Option A). option_map f x) xs) i) ≡ option_map f o
 at_mapped {A} f xs i o e = ap (option_and_then T.same) (get_map (λ (x : Option A). option_map f x) xs i o e)
 
 same_parts : (n arity : ℕ) (o : Option Shape) (x : T.Shape) → ShapeFits n arity o → option_map shape_of o ≡ Some x → length x.parts ≡ arity
@@ -41,7 +42,8 @@ parts_are s fit c n x e h =
     let at = alongside_at (ShapeFits (2 + length s.types.names)) (arities_in d) s.types.shapes c n fit.shapes e in
     same_parts (2 + length s.types.names) n at.0 x at.2 (sym (at_mapped shape_of s.types.shapes c at.0 at.1) ∙ h)
 
-carry_is : (s : SpecText) → TypesFit (spec_seen s) → (i : ℕ) (t : P.Sort) (k : T.Carry) → slice_get (grammar_of s.grammar).sorts i ≡ Some t → T.carry_of (types_of s.types) i ≡ Some k → (length k.takes ≡ t.takes) × (length k.gives ≡ t.gives)
+carry_is : (s : SpecText) → TypesFit (spec_seen s) → (i : ℕ) (t : P.Sort) (k : T.Carry) → slice_get (grammar_of s.grammar).sorts i ≡ Some t →
+    T.carry_of (types_of s.types) i ≡ Some k → (length k.takes ≡ t.takes) × (length k.gives ≡ t.gives)
 carry_is s fit i t k e h =
     let d = (spec_seen s).declared in
     let n = 2 + length s.types.names in

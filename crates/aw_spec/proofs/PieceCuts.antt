@@ -55,7 +55,8 @@ pieces_by_cut line [] = refl
 pieces_by_cut line (t ∷ ts) =
     let rest = position is_end ts in
     ap (λ b. cond b ([] ∷ pieces (lexemes line ts)) (in_front (lexeme line t) (pieces (lexemes line ts)))) (said_semicolon t.kind (slice line t))
-    ∙ elim (parts_children t.kind) as (λ b. cond b ([] ∷ pieces (lexemes line ts)) (in_front (lexeme line t) (pieces (lexemes line ts))) ≡ cut_pieces line (t ∷ ts) (cond b (Some 0) (option_map (λ i. suc i) rest))) [
+    ∙ elim (parts_children t.kind) as (λ b. cond b ([] ∷ pieces (lexemes line ts)) (in_front (lexeme line t) (pieces (lexemes line ts))) ≡ cut_pieces
+    line (t ∷ ts) (cond b (Some 0) (option_map (λ i. suc i) rest))) [
       | true ↦ refl
       | false ↦ ap (in_front (lexeme line t)) (pieces_by_cut line ts) ∙ later_cut line t ts rest
     ]

@@ -10,7 +10,9 @@ use Rattle.aw_term_reader.specs.Terms.{spelling, spellings, spellings_behind, na
 use Rattle.aw_term_reader.specs.Forms.{◌>>=◌, name, terms_between, names_between, terms_in_braces, names_in_braces}
 use Rattle.aw_term_reader.proofs.ReadsSpelled.{reads_spelled}
 use Rattle.aw_spec.specs.Laws.{IsWrittenChild, IsWrittenLine}
-use Rattle.aw_spec.specs.Lines.{Line, RoleLine, ConLine, SortLine, StartLine, OfferLine, UseLine, TypeLine, ShapeLine, CarryLine, DependsLine, FreeLine, RuleLine, ScheduleLine, as_words, in_parentheses, in_angles, params_spelling, child_spelling, behind_child, children_spelling, rule_spelling, line_spelling}
+use Rattle.aw_spec.specs.Lines.{Line, RoleLine, ConLine, SortLine, StartLine, OfferLine, UseLine, TypeLine, ShapeLine, CarryLine, DependsLine, FreeLine}
+use Rattle.aw_spec.specs.Lines.{RuleLine, ScheduleLine, as_words, in_parentheses, in_angles, params_spelling, child_spelling, behind_child}
+use Rattle.aw_spec.specs.Lines.{children_spelling, rule_spelling, line_spelling}
 use Rattle.aw_spec.specs.ReadLine.{child_of, is_semicolon, in_front, pieces, children_of, rest_of_rule, line_of}
 use Rattle.aw_spec.proofs.SpelledLines.{parenthesised, angled}
 
@@ -33,7 +35,8 @@ names_of_words (n ∷ ns) = ap (option_map (λ names. n ∷ names)) (names_of_wo
 
 names_in_angles : (ns : List (List ℕ)) (rest : List Lexeme) → names_between 60 62 (in_angles (as_words ns) ++ rest) ≡ Some (ns, rest)
 names_in_angles ns rest =
-    then (terms_between 60 62 (in_angles (as_words ns) ++ rest)) (as_words ns, rest) (λ terms. names_of terms.0 >>= λ names. Some (names, terms.1)) (Some (ns, rest)) (terms_in_angles (as_words ns) rest (words_written ns))
+    then (terms_between 60 62 (in_angles (as_words ns) ++ rest)) (as_words ns, rest) (λ terms. names_of terms.0 >>= λ names. Some (names, terms.1))
+    (Some (ns, rest)) (terms_in_angles (as_words ns) rest (words_written ns))
     (then (names_of (as_words ns)) ns (λ names. Some (names, rest)) (Some (ns, rest)) (names_of_words ns) refl)
 
 params_read : (ns : List (List ℕ)) (rest : List Lexeme) → names_in_braces (params_spelling ns ++ Mark 58 ∷ rest) ≡ Some (ns, Mark 58 ∷ rest)
@@ -42,7 +45,8 @@ params_read (n ∷ ns) rest =
     let left = Mark 58 ∷ rest in
     let words = as_words (n ∷ ns) in
     let read : terms_in_braces (params_spelling (n ∷ ns) ++ left) ≡ Some (words, left) =
-    ap (λ k. terms_in_braces (Mark 123 ∷ k)) (append_assoc (spellings (side_by_side words)) (Mark 125 ∷ []) left) ∙ reads_spelled 125 words left (λ e. omega (arith, e)) (λ e. omega (arith, e)) (words_written (n ∷ ns)) in
+    ap (λ k. terms_in_braces (Mark 123 ∷ k)) (append_assoc (spellings (side_by_side words)) (Mark 125 ∷ []) left) ∙ reads_spelled 125 words left
+    (λ e. omega (arith, e)) (λ e. omega (arith, e)) (words_written (n ∷ ns)) in
     then (terms_in_braces (params_spelling (n ∷ ns) ++ left)) (words, left) (λ terms. names_of terms.0 >>= λ names. Some (names, terms.1)) (Some (n ∷ ns, left)) read
     (then (names_of words) (n ∷ ns) (λ names. Some (names, left)) (Some (n ∷ ns, left)) (names_of_words (n ∷ ns)) refl)
 
@@ -113,14 +117,16 @@ rule_reads r w =
     let children = children_spelling r.children in
     let behind_patterns = in_angles r.results ++ children in
     let behind_sort = in_parentheses r.patterns ++ behind_patterns in
-    then (names_in_braces (params_spelling r.params ++ Mark 58 ∷ Name r.sort ∷ behind_sort)) (r.params, Mark 58 ∷ Name r.sort ∷ behind_sort) _ (Some (RuleLine r)) (params_read r.params (Name r.sort ∷ behind_sort))
+    then (names_in_braces (params_spelling r.params ++ Mark 58 ∷ Name r.sort ∷ behind_sort)) (r.params, Mark 58 ∷ Name r.sort ∷ behind_sort) _
+    (Some (RuleLine r)) (params_read r.params (Name r.sort ∷ behind_sort))
     (then (terms_between 40 41 behind_sort) (r.patterns, behind_patterns) _ (Some (RuleLine r)) (terms_in_parentheses r.patterns behind_patterns w.0)
     (then (terms_between 60 62 behind_patterns) (r.results, children) _ (Some (RuleLine r)) (terms_in_angles r.results children w.1)
     (then (rest_of_rule children) r.children _ (Some (RuleLine r)) (rest_reads r.children w.2) refl)))
 
 names_in_parentheses : (ns : List (List ℕ)) (rest : List Lexeme) → names_between 40 41 (in_parentheses (as_words ns) ++ rest) ≡ Some (ns, rest)
 names_in_parentheses ns rest =
-    then (terms_between 40 41 (in_parentheses (as_words ns) ++ rest)) (as_words ns, rest) (λ terms. names_of terms.0 >>= λ names. Some (names, terms.1)) (Some (ns, rest)) (terms_in_parentheses (as_words ns) rest (words_written ns))
+    then (terms_between 40 41 (in_parentheses (as_words ns) ++ rest)) (as_words ns, rest) (λ terms. names_of terms.0 >>= λ names. Some
+    (names, terms.1)) (Some (ns, rest)) (terms_in_parentheses (as_words ns) rest (words_written ns))
     (then (names_of (as_words ns)) ns (λ names. Some (names, rest)) (Some (ns, rest)) (names_of_words ns) refl)
 
 shape_reads : (con : List ℕ) (parts : List (List ℕ)) (own : List ℕ) → line_of (line_spelling (ShapeLine con parts own)) ≡ Some (ShapeLine con parts own)

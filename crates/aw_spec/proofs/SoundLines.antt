@@ -15,7 +15,9 @@ use Rattle.aw_term_reader.proofs.SoundForms.{AreSound, name_sound, mark_sound, T
 use Rattle.aw_term_reader.proofs.Steps.{bound, chosen}
 use Rattle.aw_spec.specs.Lines.{Line, RoleLine, ConLine, SortLine, StartLine, OfferLine, UseLine, TypeLine, ShapeLine, CarryLine, DependsLine, FreeLine, RuleLine, ScheduleLine}
 use Rattle.aw_spec.specs.Declares.{IsDeclared}
-use Rattle.aw_spec.specs.ReadLine.{child_of, is_semicolon, in_front, pieces, children_of, rest_of_rule, role_line, con_line, sort_line, start_line, offer_line, use_line, type_line, shape_line, carry_line, depends_line, rule_line, versioned, schedule_line, by_word, line_of}
+use Rattle.aw_spec.specs.ReadLine.{child_of, is_semicolon, in_front, pieces, children_of, rest_of_rule, role_line, con_line, sort_line, start_line}
+use Rattle.aw_spec.specs.ReadLine.{offer_line, use_line, type_line, shape_line, carry_line, depends_line, rule_line, versioned, schedule_line, by_word}
+use Rattle.aw_spec.specs.ReadLine.{line_of}
 
 with_name : (n : List ℕ) (ts : List Written) (o : Option (List (List ℕ))) (xs : List (List ℕ)) → names_of ts ≡ o → is_name n ≡ true
     → ((ns : List (List ℕ)) → names_of ts ≡ Some ns → are_names ns ≡ true) → option_map (λ ns. n ∷ ns) o ≡ Some xs → are_names xs ≡ true
@@ -42,7 +44,8 @@ with_names terms x s e =
     (λ names found next. subst NamesSound (same_Some (names, terms.1) x next) (names_named terms.0 names s.0 found, s.1))
 
 names_in_braces_sound : (ls : List Lexeme) (x : List (List ℕ) × List Lexeme) → AreSound ls → names_in_braces ls ≡ Some x → NamesSound x
-names_in_braces_sound ls x s e = bound (terms_in_braces ls) (λ terms. names_of terms.0 >>= λ names. Some (names, terms.1)) x e (λ terms found next. with_names terms x (braces_sound ls terms s found) next)
+names_in_braces_sound ls x s e = bound (terms_in_braces ls) (λ terms. names_of terms.0 >>= λ names. Some (names, terms.1)) x e
+    (λ terms found next. with_names terms x (braces_sound ls terms s found) next)
 
 names_between_sound : (start close : ℕ) (ls : List Lexeme) (x : List (List ℕ) × List Lexeme) → AreSound ls → names_between start close ls ≡ Some x → NamesSound x
 names_between_sound start close ls x s e =
@@ -65,7 +68,8 @@ front_sound l (p ∷ ps) s h = ((s, h.0), h.1)
 
 pieces_sound : (ls : List Lexeme) → AreSound ls → Each AreSound (pieces ls)
 pieces_sound [] s = (tt, tt)
-pieces_sound (l ∷ ls) s = elim (is_semicolon l) as (λ b. Each AreSound (cond b ([] ∷ pieces ls) (in_front l (pieces ls)))) [ true ↦ (tt, pieces_sound ls s.1) | false ↦ front_sound l (pieces ls) s.0 (pieces_sound ls s.1) ]
+pieces_sound (l ∷ ls) s = elim (is_semicolon l) as (λ b. Each AreSound (cond b ([] ∷ pieces ls) (in_front l (pieces ls))))
+    [ true ↦ (tt, pieces_sound ls s.1) | false ↦ front_sound l (pieces ls) s.0 (pieces_sound ls s.1) ]
 
 both_named : (xs ys : List (List ℕ)) → are_names xs ≡ true → are_names ys ≡ true → are_names (xs ++ ys) ≡ true
 both_named [] ys h k = k
@@ -130,7 +134,8 @@ shape_declared ls l e =
 
 carry_declared : (ls : List Lexeme) (l : Line) → carry_line ls ≡ Some l → IsDeclared l
 carry_declared ls l e =
-    bound (name ls) _ l e (λ sort f1 e1. bound (names_between 40 41 sort.1) _ l e1 (λ takes f2 e2. bound (names_between 60 62 takes.1) _ l e2 (λ gives f3 e3. at_end (CarryLine sort.0 takes.0 gives.0) l gives.1 tt e3)))
+    bound (name ls) _ l e (λ sort f1 e1. bound (names_between 40 41 sort.1) _ l e1 (λ takes f2 e2. bound (names_between 60 62 takes.1) _ l e2
+    (λ gives f3 e3. at_end (CarryLine sort.0 takes.0 gives.0) l gives.1 tt e3)))
 
 depends_declared : (ls : List Lexeme) (l : Line) → depends_line ls ≡ Some l → IsDeclared l
 depends_declared ls l e =
@@ -153,7 +158,13 @@ rule_declared ls l s e =
     let pattern = between_sound 40 41 sort.1 patterns behind_sort.1 f5 in
     let result = between_sound 60 62 patterns.1 results pattern.1 f6 in
     let subtasks = rest_fine results.1 children result.1 f7 in
-    subst IsDeclared same (first.0, (contents_append patterns.0 (uses_of rule) pattern.0 (contents_append (args_of children) results.0 subtasks.0 result.0), both_named params.0 (results_of children) behind_params.0 subtasks.1)))))))))
+    subst IsDeclared same (
+      first.0,
+      (
+        contents_append patterns.0 (uses_of rule) pattern.0 (contents_append (args_of children) results.0 subtasks.0 result.0),
+        both_named params.0 (results_of children) behind_params.0 subtasks.1,
+      ),
+    ))))))))
 
 schedule_declared : (ls : List Lexeme) (l : Line) → schedule_line ls ≡ Some l → IsDeclared l
 schedule_declared [] l e = subst IsDeclared (same_Some (ScheduleLine false) l e) tt

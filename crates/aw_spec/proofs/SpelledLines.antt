@@ -11,15 +11,20 @@ use Rattle.aw_term_reader.proofs.ReadForms.{name_is, number_is, mark_is, end_is}
 use Rattle.aw_term_reader.proofs.SpelledIfRead.{spelled_if_read, some_spelled_if_read}
 use Rattle.aw_term_reader.proofs.SomeTerms.{IsNonempty, some_terms}
 use Rattle.aw_term_reader.proofs.Steps.{bound}
-use Rattle.aw_spec.specs.Lines.{Line, RoleLine, ConLine, SortLine, StartLine, OfferLine, UseLine, TypeLine, ShapeLine, CarryLine, DependsLine, FreeLine, RuleLine, ScheduleLine, as_words, in_parentheses, in_angles, params_spelling, child_spelling, behind_child, children_spelling, line_spelling}
-use Rattle.aw_spec.specs.ReadLine.{child_of, is_semicolon, in_front, pieces, children_of, rest_of_rule, role_line, con_line, sort_line, start_line, offer_line, use_line, type_line, shape_line, carry_line, depends_line, rule_line, versioned, schedule_line, by_word, line_of}
+use Rattle.aw_spec.specs.Lines.{Line, RoleLine, ConLine, SortLine, StartLine, OfferLine, UseLine, TypeLine, ShapeLine, CarryLine, DependsLine, FreeLine}
+use Rattle.aw_spec.specs.Lines.{RuleLine, ScheduleLine, as_words, in_parentheses, in_angles, params_spelling, child_spelling, behind_child}
+use Rattle.aw_spec.specs.Lines.{children_spelling, line_spelling}
+use Rattle.aw_spec.specs.ReadLine.{child_of, is_semicolon, in_front, pieces, children_of, rest_of_rule, role_line, con_line, sort_line, start_line}
+use Rattle.aw_spec.specs.ReadLine.{offer_line, use_line, type_line, shape_line, carry_line, depends_line, rule_line, versioned, schedule_line, by_word}
+use Rattle.aw_spec.specs.ReadLine.{line_of}
 
 between_is : (start close : ℕ) (ls : List Lexeme) (x : List Written × List Lexeme) → terms_between start close ls ≡ Some x → ls ≡ Mark start ∷ (spellings (side_by_side x.0) ++ Mark close ∷ x.1)
 between_is start close ls x e =
     bound (mark start ls) (λ inside. terms_up_to close inside) x e (λ inside found next.
     mark_is start ls inside found ∙ ap (λ k. Mark start ∷ k) (spelled_if_read close inside x.0 x.1 next))
 
-front_word : (n : List ℕ) (ts : List Written) (o : Option (List (List ℕ))) (ns : List (List ℕ)) → ((ms : List (List ℕ)) → o ≡ Some ms → ts ≡ as_words ms) → option_map (λ names. n ∷ names) o ≡ Some ns → Word n ∷ ts ≡ as_words ns
+front_word : (n : List ℕ) (ts : List Written) (o : Option (List (List ℕ))) (ns : List (List ℕ)) →
+    ((ms : List (List ℕ)) → o ≡ Some ms → ts ≡ as_words ms) → option_map (λ names. n ∷ names) o ≡ Some ns → Word n ∷ ts ≡ as_words ns
 front_word n ts None ns later e = cc
 front_word n ts (Some ms) ns later e =
     let same : ◌≡◌ {A = List (List ℕ)} (n ∷ ms) ns = cc in
@@ -58,7 +63,8 @@ braced ls terms (n ∷ ns) e h =
     (some_spelled_if_read 125 ls terms.0 terms.1 e ∙ ap (λ ts. spellings (side_by_side ts) ++ Mark 125 ∷ terms.1) h
     ∙ sym (append_assoc (spellings (side_by_side (as_words (n ∷ ns)))) (Mark 125 ∷ []) terms.1))
 
-by_brace : (b : ℕ) (ls : List Lexeme) (terms : TermsRead) (names : List (List ℕ)) (t : Bool) → nat_eq b 123 ≡ t → cond t (some_terms_up_to 125 ls) (Some ([], Mark b ∷ ls)) ≡ Some terms → terms.0 ≡ as_words names →
+by_brace : (b : ℕ) (ls : List Lexeme) (terms : TermsRead) (names : List (List ℕ)) (t : Bool) → nat_eq b 123 ≡ t → cond t (some_terms_up_to 125 ls)
+    (Some ([], Mark b ∷ ls)) ≡ Some terms → terms.0 ≡ as_words names →
     Mark b ∷ ls ≡ params_spelling names ++ terms.1
 by_brace b ls terms names true h e w = ap (λ m. Mark m ∷ ls) (eqb-true b 123 h) ∙ braced ls terms names e w
 by_brace b ls terms names false h e w = unbraced (Mark b ∷ ls) terms names (same_Some ([], Mark b ∷ ls) terms e) w
@@ -89,7 +95,8 @@ child_is ls c e =
     bound (end results.1) _ c e3 (λ done f4 e4.
     let same : ◌≡◌ {A = WrittenChild} (record { sort = sort.0; args = args.0; results = results.0 }) c = cc in
     let angles : args.1 ≡ in_angles (as_words results.0) =
-    names_between_is 60 62 args.1 results f3 ∙ angled (as_words results.0) results.1 ∙ ap (λ k. in_angles (as_words results.0) ++ k) (end_is results.1 done f4) ∙ append-nil (in_angles (as_words results.0)) in
+    names_between_is 60 62 args.1 results f3 ∙ angled (as_words results.0) results.1 ∙ ap (λ k. in_angles (as_words results.0) ++ k)
+    (end_is results.1 done f4) ∙ append-nil (in_angles (as_words results.0)) in
     name_is ls sort f1 ∙ ap (λ k. Name sort.0 ∷ k) (between_is 40 41 sort.1 args f2 ∙ parenthesised args.0 args.1 ∙ ap (λ k. in_parentheses args.0 ++ k) angles) ∙ ap child_spelling same))))
 
 -- pieces, each behind a `;`
@@ -108,7 +115,8 @@ semicolon_is (Number n) h = cc
 semicolon_is (Node n) h = cc
 semicolon_is (Quoted n) h = cc
 
-cut_joins : (l : Lexeme) (ls : List Lexeme) (ps : List (List Lexeme)) (t : Bool) → is_semicolon l ≡ t → behind_pieces ps ≡ Mark 59 ∷ ls → behind_pieces (cond t ([] ∷ ps) (in_front l ps)) ≡ Mark 59 ∷ l ∷ ls
+cut_joins : (l : Lexeme) (ls : List Lexeme) (ps : List (List Lexeme)) (t : Bool) → is_semicolon l ≡ t → behind_pieces ps ≡ Mark 59 ∷ ls →
+    behind_pieces (cond t ([] ∷ ps) (in_front l ps)) ≡ Mark 59 ∷ l ∷ ls
 cut_joins l ls ps true h e = ap (λ k. Mark 59 ∷ k) (e ∙ ap (λ x. x ∷ ls) (sym (semicolon_is l h)))
 cut_joins l ls ps false h e = front_behind l ps ls e
 
@@ -149,12 +157,14 @@ role_is ls l e = bound (name ls) _ l e (λ n found e1. ap (λ k. Name (codes "ro
 con_is : (ls : List Lexeme) (l : Line) → con_line ls ≡ Some l → Name (codes "con") ∷ ls ≡ line_spelling l
 con_is ls l e =
     bound (name ls) _ l e (λ n found e1. bound (number n.1) _ l e1 (λ arity read e2.
-    ap (λ k. Name (codes "con") ∷ k) (name_is ls n found ∙ ap (λ k. Name n.0 ∷ k) (number_is n.1 arity read)) ∙ at_end (ConLine n.0 arity.0) l (Name (codes "con") ∷ Name n.0 ∷ Number arity.0 ∷ []) arity.1 refl e2))
+    ap (λ k. Name (codes "con") ∷ k) (name_is ls n found ∙ ap (λ k. Name n.0 ∷ k) (number_is n.1 arity read)) ∙ at_end (ConLine n.0 arity.0) l
+    (Name (codes "con") ∷ Name n.0 ∷ Number arity.0 ∷ []) arity.1 refl e2))
 
 sort_is : (ls : List Lexeme) (l : Line) → sort_line ls ≡ Some l → Name (codes "sort") ∷ ls ≡ line_spelling l
 sort_is ls l e =
     bound (name ls) _ l e (λ n f1 e1. bound (name n.1) _ l e1 (λ role f2 e2. bound (number role.1) _ l e2 (λ takes f3 e3. bound (number takes.1) _ l e3 (λ gives f4 e4.
-    ap (λ k. Name (codes "sort") ∷ k) (name_is ls n f1 ∙ ap (λ k. Name n.0 ∷ k) (name_is n.1 role f2 ∙ ap (λ k. Name role.0 ∷ k) (number_is role.1 takes f3 ∙ ap (λ k. Number takes.0 ∷ k) (number_is takes.1 gives f4))))
+    ap (λ k. Name (codes "sort") ∷ k) (name_is ls n f1 ∙ ap (λ k. Name n.0 ∷ k) (name_is n.1 role f2 ∙ ap (λ k. Name role.0 ∷ k)
+    (number_is role.1 takes f3 ∙ ap (λ k. Number takes.0 ∷ k) (number_is takes.1 gives f4))))
     ∙ at_end (SortLine n.0 role.0 takes.0 gives.0) l (Name (codes "sort") ∷ Name n.0 ∷ Name role.0 ∷ Number takes.0 ∷ Number gives.0 ∷ []) gives.1 refl e4))))
 
 start_is : (ls : List Lexeme) (l : Line) → start_line ls ≡ Some l → Name (codes "start") ∷ ls ≡ line_spelling l
@@ -166,7 +176,8 @@ offer_is ls l e = bound (name ls) _ l e (λ n found e1. ap (λ k. Name (codes "o
 use_is : (ls : List Lexeme) (l : Line) → use_line ls ≡ Some l → Name (codes "use") ∷ ls ≡ line_spelling l
 use_is ls l e =
     bound (name ls) _ l e (λ n f1 e1. bound (name n.1) _ l e1 (λ sort f2 e2.
-    ap (λ k. Name (codes "use") ∷ k) (name_is ls n f1 ∙ ap (λ k. Name n.0 ∷ k) (name_is n.1 sort f2)) ∙ at_end (UseLine n.0 sort.0) l (Name (codes "use") ∷ Name n.0 ∷ Name sort.0 ∷ []) sort.1 refl e2))
+    ap (λ k. Name (codes "use") ∷ k) (name_is ls n f1 ∙ ap (λ k. Name n.0 ∷ k) (name_is n.1 sort f2)) ∙ at_end (UseLine n.0 sort.0) l
+    (Name (codes "use") ∷ Name n.0 ∷ Name sort.0 ∷ []) sort.1 refl e2))
 
 type_is : (ls : List Lexeme) (l : Line) → type_line ls ≡ Some l → Name (codes "type") ∷ ls ≡ line_spelling l
 type_is ls l e = bound (name ls) _ l e (λ n found e1. ap (λ k. Name (codes "type") ∷ k) (name_is ls n found) ∙ at_end (TypeLine n.0) l (Name (codes "type") ∷ Name n.0 ∷ []) n.1 refl e1)
@@ -184,7 +195,8 @@ shape_is ls l e =
     bound (end own.1) _ l e3 (λ done ended e4.
     let same : ShapeLine con.0 parts.0 own.0 ≡ l = cc in
     let last = name_is parts.1 own f3 ∙ ap (λ k. Name own.0 ∷ k) (end_is own.1 done ended) in
-    ap (λ k. Name (codes "shape") ∷ k) (name_is ls con f1 ∙ ap (λ k. Name con.0 ∷ k) (words_in_parentheses con.1 parts f2 ∙ ap (λ k. in_parentheses (as_words parts.0) ++ k) last)) ∙ ap line_spelling same))))
+    ap (λ k. Name (codes "shape") ∷ k) (name_is ls con f1 ∙ ap (λ k. Name con.0 ∷ k) (words_in_parentheses con.1 parts f2
+    ∙ ap (λ k. in_parentheses (as_words parts.0) ++ k) last)) ∙ ap line_spelling same))))
 
 carry_is : (ls : List Lexeme) (l : Line) → carry_line ls ≡ Some l → Name (codes "carry") ∷ ls ≡ line_spelling l
 carry_is ls l e =
@@ -192,7 +204,8 @@ carry_is ls l e =
     bound (end gives.1) _ l e3 (λ done ended e4.
     let same : CarryLine sort.0 takes.0 gives.0 ≡ l = cc in
     let last = words_in_angles takes.1 gives f3 ∙ ap (λ k. in_angles (as_words gives.0) ++ k) (end_is gives.1 done ended) ∙ append-nil (in_angles (as_words gives.0)) in
-    ap (λ k. Name (codes "carry") ∷ k) (name_is ls sort f1 ∙ ap (λ k. Name sort.0 ∷ k) (words_in_parentheses sort.1 takes f2 ∙ ap (λ k. in_parentheses (as_words takes.0) ++ k) last)) ∙ ap line_spelling same))))
+    ap (λ k. Name (codes "carry") ∷ k) (name_is ls sort f1 ∙ ap (λ k. Name sort.0 ∷ k) (words_in_parentheses sort.1 takes f2
+    ∙ ap (λ k. in_parentheses (as_words takes.0) ++ k) last)) ∙ ap line_spelling same))))
 
 depends_is : (ls : List Lexeme) (l : Line) → depends_line ls ≡ Some l → Name (codes "depends") ∷ ls ≡ line_spelling l
 depends_is ls l e =
@@ -234,11 +247,13 @@ same_word [] (y ∷ ys) h = cc
 same_word (x ∷ xs) [] h = cc
 same_word (x ∷ xs) (y ∷ ys) h = let (first, rest) = and_parts _ _ h in λ i. eqb-true x y first i ∷ same_word xs ys rest i
 
-tested : (w k : List ℕ) (ls : List Lexeme) (x y : Option Line) (l : Line) (t : Bool) → nats_eq w k ≡ t → (x ≡ Some l → Name k ∷ ls ≡ line_spelling l) → (y ≡ Some l → Name w ∷ ls ≡ line_spelling l) → cond t x y ≡ Some l → Name w ∷ ls ≡ line_spelling l
+tested : (w k : List ℕ) (ls : List Lexeme) (x y : Option Line) (l : Line) (t : Bool) → nats_eq w k ≡ t →
+    (x ≡ Some l → Name k ∷ ls ≡ line_spelling l) → (y ≡ Some l → Name w ∷ ls ≡ line_spelling l) → cond t x y ≡ Some l → Name w ∷ ls ≡ line_spelling l
 tested w k ls x y l true h f g e = ap (λ v. Name v ∷ ls) (same_word w k h) ∙ f e
 tested w k ls x y l false h f g e = g e
 
-chosen : (w k : List ℕ) (ls : List Lexeme) (x y : Option Line) (l : Line) → (x ≡ Some l → Name k ∷ ls ≡ line_spelling l) → (y ≡ Some l → Name w ∷ ls ≡ line_spelling l) → cond (nats_eq w k) x y ≡ Some l → Name w ∷ ls ≡ line_spelling l
+chosen : (w k : List ℕ) (ls : List Lexeme) (x y : Option Line) (l : Line) → (x ≡ Some l → Name k ∷ ls ≡ line_spelling l) →
+    (y ≡ Some l → Name w ∷ ls ≡ line_spelling l) → cond (nats_eq w k) x y ≡ Some l → Name w ∷ ls ≡ line_spelling l
 chosen w k ls x y l f g e = tested w k ls x y l (nats_eq w k) refl f g e
 
 word_is : (w : List ℕ) (ls : List Lexeme) (l : Line) → by_word w ls ≡ Some l → Name w ∷ ls ≡ line_spelling l

@@ -19,7 +19,9 @@ use Rattle.aw_spec.specs.declared.fault.SpecKind.{SpecKind}
 use Rattle.aw_spec.specs.Stages.{sorts_stage, rules_stage}
 use Rattle.aw_spec.specs.Lines.{Line, RoleLine, ConLine, SortLine, StartLine, OfferLine, UseLine, TypeLine, ShapeLine, CarryLine, DependsLine, FreeLine, RuleLine, ScheduleLine}
 use Rattle.aw_spec.specs.TypeLines.{type_names, shape_named, carry_named}
-use Rattle.aw_spec.specs.Reading.{Spec, Step, On, Wrong, Stop, declaring, if_kept, keeping, told_or, offer_tests, with_offer, use_tests, with_use, with_no_shape, with_no_carry, type_tests, with_type, con_place, sort_place, shape_tests, with_shape, carry_tests, with_carry, depends_tests, with_depends, free_tests, with_free, says, stage_of}
+use Rattle.aw_spec.specs.Reading.{Spec, Step, On, Wrong, Stop, declaring, if_kept, keeping, told_or, offer_tests, with_offer, use_tests, with_use}
+use Rattle.aw_spec.specs.Reading.{with_no_shape, with_no_carry, type_tests, with_type, con_place, sort_place, shape_tests, with_shape, carry_tests}
+use Rattle.aw_spec.specs.Reading.{with_carry, depends_tests, with_depends, free_tests, with_free, says, stage_of}
 
 -- what a property of declarations has to be for a step to keep it
 abbrev Holds : (Declarations → Type 0) → Step → Type 0
@@ -96,7 +98,8 @@ same_kept : (s after : Spec) (o : Option (ℕ × FaceKind)) → if_kept s o ≡ 
 same_kept s after None e few = let same : s ≡ after = cc in subst (λ (u : Spec). length u.types.names ≤ 256) same few
 same_kept s after (Some fault) e few = cc
 
-same_keeping : (s after : Spec) (r : WrittenRule) (kind : Option DeclKind) → keeping s r (declaring s kind (with_rule s.declared r)) ≡ On after → length s.types.names ≤ 256 → length after.types.names ≤ 256
+same_keeping : (s after : Spec) (r : WrittenRule) (kind : Option DeclKind) → keeping s r (declaring s kind (with_rule s.declared r)) ≡ On after →
+    length s.types.names ≤ 256 → length after.types.names ≤ 256
 same_keeping s after r None e few = same_kept (record s { declared = with_rule s.declared r }) after _ e few
 same_keeping s after r (Some kind) e few = cc
 

@@ -1,5 +1,6 @@
 -- Lists that go together, and what types by name are.
-use Rattle.std.proofs.Common.{◌≡◌, ◌≢◌, ℕ, zero, suc, ◌+◌, ◌<◌, refl, ap, ◌∙◌, subst, Bool, true, false, ◌||◌, List, [], ◌∷◌, ◌++◌, set, map, length, Option, Some, None, is_some, option_map, cond, slice_get, arith}
+use Rattle.std.proofs.Common.{◌≡◌, ◌≢◌, ℕ, zero, suc, ◌+◌, ◌<◌, refl, ap, ◌∙◌, subst, Bool, true, false, ◌||◌, List, [], ◌∷◌, ◌++◌, set, map, length}
+use Rattle.std.proofs.Common.{Option, Some, None, is_some, option_map, cond, slice_get, arith}
 use Rattle.std.proofs.lemmas.Bool.{or_parts}
 use Rattle.std.specs.List.{list_any}
 use Rattle.aw_name_index.specs.Places.{is_same, stands, place_of}

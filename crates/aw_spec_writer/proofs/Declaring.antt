@@ -1,5 +1,6 @@
 -- The lines of a well-formed specification lead from nothing to the specification.
-use Rattle.std.proofs.Common.{◌≡◌, ℕ, zero, suc, ◌<◌, ◌≤◌, nat_eq, nat_lt, refl, sym, ap, ◌∙◌, subst, Bool, true, false, cond, not, ◌&&◌, ◌||◌, List, [], ◌∷◌, ◌++◌, length, map, Option, Some, None, option_and_then, slice_get, arith, append_assoc, length-append}
+use Rattle.std.proofs.Common.{◌≡◌, ℕ, zero, suc, ◌<◌, ◌≤◌, nat_eq, nat_lt, refl, sym, ap, ◌∙◌, subst, Bool, true, false, cond, not, ◌&&◌, ◌||◌, List}
+use Rattle.std.proofs.Common.{[], ◌∷◌, ◌++◌, length, map, Option, Some, None, option_and_then, slice_get, arith, append_assoc, length-append}
 use Rattle.std.proofs.lemmas.List.{map-append, length-map}
 use Rattle.std.proofs.lemmas.Bool.{eqb-true, ne_eqb, lt-leb, le-ltb, or_from}
 use Rattle.std.specs.List.{list_any}
@@ -14,7 +15,8 @@ use Rattle.aw_grammar.specs.declared.raw.RawCon.{RawCon}
 use Rattle.aw_grammar.specs.declared.raw.RawSort.{RawSort}
 use Rattle.aw_grammar.specs.declared.fault.DeclKind.TheVariants.{Inherits}
 use Rattle.aw_grammar.specs.GrammarView.{sort_of, sorts_of}
-use Rattle.aw_grammar.specs.Declarations.{Entry, Declarations, con_names, sort_names, rule_names, grammar_in, with_role, with_con, sort_declared, with_sort, with_start, with_start_at, with_rule, entry_of}
+use Rattle.aw_grammar.specs.Declarations.{Entry, Declarations, con_names, sort_names, rule_names, grammar_in, with_role, with_con, sort_declared}
+use Rattle.aw_grammar.specs.Declarations.{with_sort, with_start, with_start_at, with_rule, entry_of}
 use Rattle.aw_grammar.specs.Kinds.{start_kind, start_kind_of, role_tests, con_tests, sort_tests}
 use Rattle.aw_grammar.proofs.PlacedNames.{place_again}
 use Rattle.aw_face.specs.declared.faces.Using.{Using}
@@ -89,19 +91,22 @@ roles_lead roles few differ = all_through roles_stage (λ name. RoleLine name) w
 abbrev pub with_cons : List (List ℕ) → List decl.Con → Spec
 with_cons roles cons = record { declared = record { roles = roles; cons = cons; sorts = []; rules = [] }; offers = []; uses = []; types = untyped cons []; depends = []; free = false }
 
-con_said : (roles : List (List ℕ)) (all pre : List decl.Con) (c : decl.Con) (post : List decl.Con) → length all ≤ 1024 → Differ (map (λ (k : decl.Con). k.name) all) → Each (λ (k : decl.Con). k.arity ≤ 8) all → all ≡ pre ++ c ∷ post →
+con_said : (roles : List (List ℕ)) (all pre : List decl.Con) (c : decl.Con) (post : List decl.Con) → length all ≤ 1024 →
+    Differ (map (λ (k : decl.Con). k.name) all) → Each (λ (k : decl.Con). k.arity ≤ 8) all → all ≡ pre ++ c ∷ post →
     says (with_cons roles pre) (con_line c) ≡ On (with_cons roles (pre ++ c ∷ []))
 con_said roles all pre c post few differ small e =
     let s = with_cons roles pre in
     let raw : RawCon = record { name = c.name; arity = c.arity } in
     ap (λ k. declaring (with_no_shape s) k (with_con s.declared raw))
     (none_told (con_tests s.declared raw) (
-      or_from _ _ (lt-leb 1024 (length pre) (below_all all pre c post 1024 e few)) (le-ltb 8 c.arity (each_mid (λ (k : decl.Con). k.arity ≤ 8) pre c post (subst (Each (λ (k : decl.Con). k.arity ≤ 8)) e small))),
+      or_from _ _ (lt-leb 1024 (length pre) (below_all all pre c post 1024 e few))
+          (le-ltb 8 c.arity (each_mid (λ (k : decl.Con). k.arity ≤ 8) pre c post (subst (Each (λ (k : decl.Con). k.arity ≤ 8)) e small))),
       (split_names (λ (k : decl.Con). k.name) all pre c post e differ, tt),
     ))
     ∙ ap (λ os. On (record (with_cons roles (pre ++ c ∷ [])) { types = record (untyped [] []) { shapes = os } })) (sym (map-append no_shape pre (c ∷ [])))
 
-pub cons_lead : (roles : List (List ℕ)) (cons : List decl.Con) → length cons ≤ 1024 → Differ (map (λ (k : decl.Con). k.name) cons) → Each (λ (k : decl.Con). k.arity ≤ 8) cons → Through cons_stage (with_roles roles) (map con_line cons) (with_cons roles cons)
+pub cons_lead : (roles : List (List ℕ)) (cons : List decl.Con) → length cons ≤ 1024 → Differ (map (λ (k : decl.Con). k.name) cons) →
+    Each (λ (k : decl.Con). k.arity ≤ 8) cons → Through cons_stage (with_roles roles) (map con_line cons) (with_cons roles cons)
 cons_lead roles cons few differ small = all_through cons_stage con_line (with_cons roles) cons (λ c. refl) (λ pre c post e. con_said roles cons pre c post few differ small e)
 
 -- sorts, which are no start sorts at first
@@ -116,7 +121,8 @@ names_unstarted : (sorts : List Sort) → map (λ (s : Sort). s.name) (map unsta
 names_unstarted [] = refl
 names_unstarted (s ∷ sorts) = ap (λ ns. s.name ∷ ns) (names_unstarted sorts)
 
-sort_said : (roles : List (List ℕ)) (cons : List decl.Con) (all pre : List Sort) (s : Sort) (post : List Sort) → Differ roles → length all ≤ 256 → Differ (map (λ (t : Sort). t.name) all) → Each (λ (t : Sort). SortFits (length roles) (sort_of t)) all → all ≡ pre ++ s ∷ post →
+sort_said : (roles : List (List ℕ)) (cons : List decl.Con) (all pre : List Sort) (s : Sort) (post : List Sort) → Differ roles → length all ≤ 256 →
+    Differ (map (λ (t : Sort). t.name) all) → Each (λ (t : Sort). SortFits (length roles) (sort_of t)) all → all ≡ pre ++ s ∷ post →
     says (with_sorts roles cons (map unstarted pre)) (sort_line roles s) ≡ On (with_sorts roles cons (map unstarted (pre ++ s ∷ [])))
 sort_said roles cons all pre s post roles_differ few differ fit e =
     let at = with_sorts roles cons (map unstarted pre) in
@@ -131,11 +137,20 @@ sort_said roles cons all pre s post roles_differ few differ fit e =
         (ap not (stands_at roles s.role roles_differ fits.declared), tt),
       ),
     ))
-    ∙ ap (λ ks. On (record (with_sorts roles cons (map unstarted pre ++ sort_declared at.declared raw ∷ [])) { types = record (untyped cons []) { carries = ks } })) (sym (map-append no_carry (map unstarted pre) (sort_declared at.declared raw ∷ [])))
-    ∙ ap (λ r. On (with_sorts roles cons (map unstarted pre ++ record { name = s.name; role = r; takes = s.takes; gives = s.gives; start = false } ∷ []))) (number_again roles s.role roles_differ fits.declared)
+    ∙ ap (λ ks. On (record (with_sorts roles cons (map unstarted pre ++ sort_declared at.declared raw ∷ []))
+    { types = record (untyped cons []) { carries = ks } })) (sym (map-append no_carry (map unstarted pre) (sort_declared at.declared raw ∷ [])))
+    ∙ ap (λ r. On (with_sorts roles cons (map unstarted pre ++ record {
+      name = s.name;
+      role = r;
+      takes = s.takes;
+      gives = s.gives;
+      start =
+          false;
+    } ∷ []))) (number_again roles s.role roles_differ fits.declared)
     ∙ ap (λ ss. On (with_sorts roles cons ss)) (sym (map-append unstarted pre (s ∷ [])))
 
-pub sorts_lead : (roles : List (List ℕ)) (cons : List decl.Con) (sorts : List Sort) → Differ roles → length sorts ≤ 256 → Differ (map (λ (t : Sort). t.name) sorts) → Each (λ (t : Sort). SortFits (length roles) (sort_of t)) sorts →
+pub sorts_lead : (roles : List (List ℕ)) (cons : List decl.Con) (sorts : List Sort) → Differ roles → length sorts ≤ 256 →
+    Differ (map (λ (t : Sort). t.name) sorts) → Each (λ (t : Sort). SortFits (length roles) (sort_of t)) sorts →
     Through sorts_stage (with_cons roles cons) (map (sort_line roles) sorts) (with_sorts roles cons (map unstarted sorts))
 sorts_lead roles cons sorts roles_differ few differ fit =
     all_through sorts_stage (sort_line roles) (λ pre. with_sorts roles cons (map unstarted pre)) sorts (λ s. refl) (λ pre s post e. sort_said roles cons sorts pre s post roles_differ few differ fit e)
@@ -171,13 +186,15 @@ start_said roles cons done s left new none started =
     let kept : start_kind at.declared s.name ≡ None =
     ap (λ o. start_kind_of (option_and_then (λ i. slice_get sorts i) o)) placed ∙ ap start_kind_of (get_mid done (unstarted s) rest) ∙ ap (λ n. cond (nat_lt 0 n) (Some Inherits) None) none in
     ap (λ k. declaring at k (with_start at.declared s.name)) kept
-    ∙ ap (λ ks. On (record (with_sorts roles cons (with_start at.declared s.name).sorts) { types = record (untyped cons []) { carries = ks } })) (sym (uncarried sorts (number_of s.name (map name sorts))))
+    ∙ ap (λ ks. On (record (with_sorts roles cons (with_start at.declared s.name).sorts) { types = record (untyped cons []) { carries = ks } }))
+    (sym (uncarried sorts (number_of s.name (map name sorts))))
     ∙ ap (λ i. On (with_sorts roles cons (with_start_at sorts i))) (ap (or_else (length (map name sorts))) placed)
     ∙ ap (λ ss. On (with_sorts roles cons ss)) (started_mid done (unstarted s) rest)
     ∙ ap (λ b. On (with_sorts roles cons (done ++ record s { start = b } ∷ rest))) (sym started)
     ∙ ap (λ ss. On (with_sorts roles cons ss)) (sym (append_assoc done (s ∷ []) rest))
 
-start_leads : (roles : List (List ℕ)) (cons : List decl.Con) (done : List Sort) (s : Sort) (left : List Sort) → stands s.name (map (λ (t : Sort). t.name) done) ≡ false → SortFits (length roles) (sort_of s) → (b : Bool) → s.start ≡ b →
+start_leads : (roles : List (List ℕ)) (cons : List decl.Con) (done : List Sort) (s : Sort) (left : List Sort) →
+    stands s.name (map (λ (t : Sort). t.name) done) ≡ false → SortFits (length roles) (sort_of s) → (b : Bool) → s.start ≡ b →
     Through starts_stage (partly roles cons done (s ∷ left)) (cond b (StartLine s.name ∷ []) []) (partly roles cons (done ++ s ∷ []) left)
 start_leads roles cons done s left new fits true e =
     through_line starts_stage (partly roles cons done (s ∷ left)) (partly roles cons (done ++ s ∷ []) left) (StartLine s.name) refl (start_said roles cons done s left new (fits.start e) e)
@@ -197,7 +214,9 @@ starts_lead roles cons sorts differ fit = go [] sorts refl
     go done [] e = subst (λ ss. Through starts_stage (partly roles cons done []) [] (with_sorts roles cons ss)) (sym e) (through_none starts_stage (partly roles cons done []))
     go done (s ∷ left) e =
         through_same 4 (partly roles cons done (s ∷ left)) (partly roles cons (done ++ s ∷ []) left) (with_sorts roles cons sorts) (start_line s) (start_lines left)
-        (start_leads roles cons done s left (split_names (λ (t : Sort). t.name) sorts done s left e differ) (each_mid (λ (t : Sort). SortFits (length roles) (sort_of t)) done s left (subst (Each (λ (t : Sort). SortFits (length roles) (sort_of t))) e fit)) s.start refl)
+        (start_leads roles cons done s left (split_names (λ (t : Sort). t.name) sorts done s left e differ)
+        (each_mid (λ (t : Sort). SortFits (length roles) (sort_of t)) done s left
+        (subst (Each (λ (t : Sort). SortFits (length roles) (sort_of t))) e fit)) s.start refl)
         (go (done ++ s ∷ []) left (e ∙ sym (append_assoc done (s ∷ []) left)))
 
 -- offers
@@ -223,14 +242,16 @@ offer_said : (d : Declarations) (all pre : List ℕ) (o : ℕ) (post : List ℕ)
 offer_said d all pre o post differ declared once e =
     let s = with_offers d pre in
     let less = each_mid (λ sort. sort < length d.sorts) pre o post (subst (Each (λ sort. sort < length d.sorts)) e declared) in
-    let new : is_offered o pre ≡ false = none_any (λ a. nat_eq a o) pre (each_map (λ a. a ≡ o → ⊥) (λ a. nat_eq a o ≡ false) pre (λ a h. ne_eqb a o h) (before_mid (λ a b. a ≡ b → ⊥) pre o post (subst (Later (λ a b. a ≡ b → ⊥)) e once))) in
+    let new : is_offered o pre ≡ false = none_any (λ a. nat_eq a o) pre (each_map (λ a. a ≡ o → ⊥) (λ a. nat_eq a o ≡ false) pre (λ a h. ne_eqb a o h)
+    (before_mid (λ a b. a ≡ b → ⊥) pre o post (subst (Later (λ a b. a ≡ b → ⊥)) e once))) in
     offer_by s (get [] (sort_names d) o)
     ∙ ap (offering s) (place_again (sort_names d) o differ (named_below d.sorts o less))
     ∙ ap (λ b. cond b (Wrong kind.Double) (On (with_offers d (pre ++ o ∷ [])))) new
 
 pub offers_lead : (d : Declarations) (offers : List ℕ) → Differ (sort_names d) → Each (λ sort. sort < length d.sorts) offers → Later (λ a b. a ≡ b → ⊥) offers →
     Through offers_stage (with_sorts d.roles d.cons d.sorts) (map (offer_line (sort_names d)) offers) (with_offers d offers)
-offers_lead d offers differ declared once = all_through offers_stage (offer_line (sort_names d)) (with_offers d) offers (λ o. refl) (λ pre o post e. offer_said d offers pre o post differ declared once e)
+offers_lead d offers differ declared once = all_through offers_stage (offer_line (sort_names d)) (with_offers d) offers (λ o. refl)
+    (λ pre o post e. offer_said d offers pre o post differ declared once e)
 
 -- uses
 
@@ -247,7 +268,8 @@ other_use u v h = by_test (nat_eq u.role v.role) refl
     by_test true e = ap (λ b. b && nat_eq u.sort v.sort) e ∙ ne_eqb u.sort v.sort (h (eqb-true u.role v.role e))
     by_test false e = ap (λ b. b && nat_eq u.sort v.sort) e
 
-use_said : (d : Declarations) (offers : List ℕ) (all pre : List Using) (u : Using) (post : List Using) → Differ d.roles → Differ (sort_names d) → Each (IsDeclaredUse d) all → Later AreApart all → all ≡ pre ++ u ∷ post →
+use_said : (d : Declarations) (offers : List ℕ) (all pre : List Using) (u : Using) (post : List Using) → Differ d.roles → Differ (sort_names d) →
+    Each (IsDeclaredUse d) all → Later AreApart all → all ≡ pre ++ u ∷ post →
     says (with_uses d offers pre) (use_line d.roles (sort_names d) u) ≡ On (with_uses d offers (pre ++ u ∷ []))
 use_said d offers all pre u post roles_differ differ declared once e =
     let s = with_uses d offers pre in
@@ -262,7 +284,8 @@ use_said d offers all pre u post roles_differ differ declared once e =
 
 pub uses_lead : (d : Declarations) (offers : List ℕ) (uses : List Using) → Differ d.roles → Differ (sort_names d) → Each (IsDeclaredUse d) uses → Later AreApart uses →
     Through uses_stage (with_offers d offers) (map (use_line d.roles (sort_names d)) uses) (with_uses d offers uses)
-uses_lead d offers uses roles_differ differ declared once = all_through uses_stage (use_line d.roles (sort_names d)) (with_uses d offers) uses (λ u. refl) (λ pre u post e. use_said d offers uses pre u post roles_differ differ declared once e)
+uses_lead d offers uses roles_differ differ declared once = all_through uses_stage (use_line d.roles (sort_names d)) (with_uses d offers) uses
+    (λ u. refl) (λ pre u post e. use_said d offers uses pre u post roles_differ differ declared once e)
 
 -- types and dependences, and then the line `free`
 
@@ -283,7 +306,8 @@ free_leads s false e =
 -- rules
 
 -- no rule is at fault where none of all is
-no_rule_fault : (sorts : List P.Sort) (offers : List ℕ) (uses : List Using) (i : ℕ) (pre : List Entry) (e : Entry) (post : List Entry) → rules_fault sorts offers uses i (map (λ (x : Entry). x.rule) (pre ++ e ∷ post)) ≡ None → rule_fault sorts offers uses e.rule ≡ None
+no_rule_fault : (sorts : List P.Sort) (offers : List ℕ) (uses : List Using) (i : ℕ) (pre : List Entry) (e : Entry) (post : List Entry) →
+    rules_fault sorts offers uses i (map (λ (x : Entry). x.rule) (pre ++ e ∷ post)) ≡ None → rule_fault sorts offers uses e.rule ≡ None
 no_rule_fault sorts offers uses i [] e post h = here (rule_fault sorts offers uses e.rule) h
   where
     here : (o : Option (ℕ × FaceKind)) → at_rule i o (rules_fault sorts offers uses (suc i) (map (λ (x : Entry). x.rule) post)) ≡ None → o ≡ None
@@ -291,7 +315,8 @@ no_rule_fault sorts offers uses i [] e post h = here (rule_fault sorts offers us
     here (Some fault) k = cc
 no_rule_fault sorts offers uses i (x ∷ pre) e post h = no_rule_fault sorts offers uses (suc i) pre e post (later (rule_fault sorts offers uses x.rule) h)
   where
-    later : (o : Option (ℕ × FaceKind)) → at_rule i o (rules_fault sorts offers uses (suc i) (map (λ (y : Entry). y.rule) (pre ++ e ∷ post))) ≡ None → rules_fault sorts offers uses (suc i) (map (λ (y : Entry). y.rule) (pre ++ e ∷ post)) ≡ None
+    later : (o : Option (ℕ × FaceKind)) → at_rule i o (rules_fault sorts offers uses (suc i) (map (λ (y : Entry). y.rule) (pre ++ e ∷ post))) ≡ None →
+        rules_fault sorts offers uses (suc i) (map (λ (y : Entry). y.rule) (pre ++ e ∷ post)) ≡ None
     later None k = k
     later (Some fault) k = cc
 
@@ -308,7 +333,8 @@ rule_said s fine kept pre e post all =
     let few : length pre < 1024 = below_all d.rules pre e post 1024 all fine.few_rules in
     let new = split_names (λ (x : Entry). x.name) d.rules pre e post all fine.rules_differ in
     let same : entry_of before w ≡ e = entry_again before e fine.cons_differ fine.sorts_differ fits vars in
-    let fault : rule_fault (sorts_of d.sorts) s.offers s.uses e.rule ≡ None = no_rule_fault (sorts_of d.sorts) s.offers s.uses 0 pre e post (ap (λ rs. rules_fault (sorts_of d.sorts) s.offers s.uses 0 (map (λ (x : Entry). x.rule) rs)) (sym all) ∙ kept) in
+    let fault : rule_fault (sorts_of d.sorts) s.offers s.uses e.rule ≡ None = no_rule_fault (sorts_of d.sorts) s.offers s.uses 0 pre e post
+    (ap (λ rs. rules_fault (sorts_of d.sorts) s.offers s.uses 0 (map (λ (x : Entry). x.rule) rs)) (sym all) ∙ kept) in
     ap (λ k. keeping at w (declaring at k (with_rule before w))) (no_fault before e fine.cons_differ fine.sorts_differ fine.sorts fits vars few new)
     ∙ ap (λ x. if_kept (with_rules s (pre ++ x ∷ [])) (rule_fault (sorts_of d.sorts) s.offers s.uses x.rule)) same
     ∙ ap (if_kept (with_rules s (pre ++ e ∷ []))) fault
@@ -331,4 +357,5 @@ rule_said s fine kept pre e post all =
 
 pub rules_lead : (s : Spec) → Fine s.declared → face_fault (grammar_in s.declared) s.offers s.uses ≡ None →
     Through rules_stage (with_rules s []) (map (λ (e : Entry). RuleLine (named_rule (con_names s.declared) (sort_names s.declared) e)) s.declared.rules) (with_rules s s.declared.rules)
-rules_lead s fine kept = all_through rules_stage (λ (e : Entry). RuleLine (named_rule (con_names s.declared) (sort_names s.declared) e)) (with_rules s) s.declared.rules (λ e. refl) (λ pre e post all. rule_said s fine kept pre e post all)
+rules_lead s fine kept = all_through rules_stage (λ (e : Entry). RuleLine (named_rule (con_names s.declared) (sort_names s.declared) e))
+    (with_rules s) s.declared.rules (λ e. refl) (λ pre e post all. rule_said s fine kept pre e post all)

@@ -139,7 +139,9 @@ pub through_same : (k : ℕ) (s t u : Spec) (xs ys : List Line) → Through k s 
 through_same k s t u xs ys first then = between_both k k k k s t u xs ys (omega arith) first then
 
 -- lines, one for each item
-pub all_through : {A : Type 0} (k : ℕ) (line : A → Line) (state : List A → Spec) (all : List A) → ((x : A) → stage_of (line x) ≡ k) → ((pre : List A) (x : A) (post : List A) → all ≡ pre ++ x ∷ post → says (state pre) (line x) ≡ On (state (pre ++ x ∷ []))) → Through k (state []) (map line all) (state all)
+pub all_through : {A : Type 0} (k : ℕ) (line : A → Line) (state : List A → Spec) (all : List A) → ((x : A) → stage_of (line x) ≡ k) →
+    ((pre : List A) (x : A) (post : List A) → all ≡ pre ++ x ∷ post → says (state pre) (line x) ≡ On (state (pre ++ x ∷ []))) → Through k (state [])
+    (map line all) (state all)
 all_through {A} k line state all at step = go [] all refl
   where
     go : (pre rest : List A) → all ≡ pre ++ rest → Through k (state pre) (map line rest) (state all)

@@ -1,5 +1,6 @@
 -- A rule that fits, with its names, is without fault, and is declared as itself.
-use Rattle.std.proofs.Common.{◌≡◌, ℕ, zero, suc, ◌+◌, ◌-◌, ◌<◌, ◌≤◌, refl, sym, ap, ◌∙◌, subst, true, false, List, [], ◌∷◌, ◌++◌, length, map, take, drop, Some, None, option_and_then, slice_get, arith, length-drop}
+use Rattle.std.proofs.Common.{◌≡◌, ℕ, zero, suc, ◌+◌, ◌-◌, ◌<◌, ◌≤◌, refl, sym, ap, ◌∙◌, subst, true, false, List, [], ◌∷◌, ◌++◌, length, map, take}
+use Rattle.std.proofs.Common.{drop, Some, None, option_and_then, slice_get, arith, length-drop}
 use Rattle.std.proofs.Math.Seq.{take-add}
 use Rattle.std.proofs.lemmas.List.{length-map, length-take-le, take_all, take-append-drop}
 use Rattle.std.proofs.lemmas.Bool.{and_from, or_from, not_from_true, eq-eqb, le-ltb, lt-leb}
@@ -41,7 +42,8 @@ sort_at (s ∷ sorts) (suc i) h =
     record { sort = at.sort; found = at.found; seen = at.seen; below = omega (arith, at.below) }
 
 -- the sort at a place, by its name, takes and gives what it says
-has_sort : (sorts : List Sort) (i takes gives : ℕ) → Differ (map (λ (s : Sort). s.name) sorts) → i < length (sorts_of sorts) → takes ≡ takes_of (slice_get (sorts_of sorts) i) → gives ≡ gives_of (slice_get (sorts_of sorts) i) →
+has_sort : (sorts : List Sort) (i takes gives : ℕ) → Differ (map (λ (s : Sort). s.name) sorts) → i < length (sorts_of sorts) →
+    takes ≡ takes_of (slice_get (sorts_of sorts) i) → gives ≡ gives_of (slice_get (sorts_of sorts) i) →
     takes_and_gives (sort_called (get [] (map (λ (s : Sort). s.name) sorts) i) sorts) takes gives ≡ true
 has_sort sorts i takes gives differ less t g =
     let at = sort_at sorts i less in
@@ -73,8 +75,21 @@ used_terms_enter : (cons : List decl.Con) (vars : List (List ℕ)) (ts : List Te
     all_stand (leaves_of (all_resolved (names_in cons) (map (named (names_in cons) vars) ts))) vars ≡ true
 used_terms_enter cons vars ts differ below terms = ap (λ ns. all_stand ns vars) terms.leaves ∙ all_stand_at vars (leaves_of ts) differ below
 
-children_well : (g : P.Grammar) (cons : List decl.Con) (sorts : List Sort) (vars left : List (List ℕ)) → g.arities ≡ arities_in cons → g.sorts ≡ sorts_of sorts → Ground cons sorts vars → (cs : List P.Child) → Each (ChildFits g (length vars)) cs → outs_of cs ≤ length left → ChildrenWell cons sorts vars left cs
-children_well g cons sorts vars left ga gs on [] fits enough = record { known = refl; arities = refl; enter = refl; depth = omega arith; symbols = refl; stand = refl; fit = refl; back = refl; outs = refl }
+children_well : (g : P.Grammar) (cons : List decl.Con) (sorts : List Sort) (vars left : List (List ℕ)) → g.arities ≡ arities_in cons →
+    g.sorts ≡ sorts_of sorts → Ground cons sorts vars → (cs : List P.Child) → Each (ChildFits g (length vars)) cs → outs_of cs ≤ length left →
+    ChildrenWell cons sorts vars left cs
+children_well g cons sorts vars left ga gs on [] fits enough = record {
+  known = refl;
+  arities = refl;
+  enter = refl;
+  depth = omega arith;
+  symbols =
+      refl;
+  stand = refl;
+  fit = refl;
+  back = refl;
+  outs = refl;
+}
 children_well g cons sorts vars left ga gs on (c ∷ cs) fits enough =
     let names = names_in cons in
     let sort_names = map (λ (s : Sort). s.name) sorts in
@@ -128,7 +143,8 @@ rule_parts d e cons_differ sorts_differ fits vars =
     let below_patterns : Each (λ v. v < length names) (leaves_of r.patterns) = subst (Each (λ v. v < length names)) (sym fits.numbered) (each_upto 0 k (length names) (omega (arith, count))) in
     let patterns = all_well d.cons names cons_differ vars.differ vars.free r.patterns fits.patterns below_patterns in
     let results = all_well d.cons names cons_differ vars.differ vars.free r.results fits.results (subst (λ n. Each (λ v. v < n) (leaves_of r.results)) (sym vars.count) fits.enter) in
-    let children = children_well (grammar_in d) d.cons d.sorts names rest refl refl on r.children (subst (λ n. Each (ChildFits (grammar_in d) n) r.children) (sym vars.count) fits.children) (omega (arith, rest_length)) in
+    let children = children_well (grammar_in d) d.cons d.sorts names rest refl refl on r.children
+    (subst (λ n. Each (ChildFits (grammar_in d) n) r.children) (sym vars.count) fits.children) (omega (arith, rest_length)) in
     record {
       patterns = patterns;
       results = results;
@@ -142,7 +158,8 @@ rule_parts d e cons_differ sorts_differ fits vars =
     }
 
 -- it is declared as itself
-pub entry_again : (d : Declarations) (e : Entry) → Differ (con_names d) → Differ (sort_names d) → RuleFits (grammar_in d) e.rule → VariablesFit (con_names d) e.vars e.rule → entry_of d (named_rule (con_names d) (sort_names d) e) ≡ e
+pub entry_again : (d : Declarations) (e : Entry) → Differ (con_names d) → Differ (sort_names d) → RuleFits (grammar_in d) e.rule →
+    VariablesFit (con_names d) e.vars e.rule → entry_of d (named_rule (con_names d) (sort_names d) e) ≡ e
 entry_again d e cons_differ sorts_differ fits vars =
     let parts = rule_parts d e cons_differ sorts_differ fits vars in
     let names = con_names d in
@@ -173,7 +190,8 @@ length_children cons sorts vars left [] = refl
 length_children cons sorts vars left (c ∷ cs) = ap (λ n. suc n) (length_children cons sorts vars (drop c.outs left) cs)
 
 -- nothing is wrong with it
-pub no_fault : (d : Declarations) (e : Entry) → Differ (con_names d) → Differ (sort_names d) → Each (λ s. SortFits (length d.roles) (sort_of s)) d.sorts → RuleFits (grammar_in d) e.rule → VariablesFit (con_names d) e.vars e.rule →
+pub no_fault : (d : Declarations) (e : Entry) → Differ (con_names d) → Differ (sort_names d) → Each (λ s. SortFits (length d.roles) (sort_of s))
+    d.sorts → RuleFits (grammar_in d) e.rule → VariablesFit (con_names d) e.vars e.rule →
     length d.rules < 1024 → stands e.name (rule_names d) ≡ false → rule_kind d (named_rule (con_names d) (sort_names d) e) ≡ None
 no_fault d e cons_differ sorts_differ sorts_fit fits vars few new =
     let r = e.rule in
@@ -191,7 +209,15 @@ no_fault d e cons_differ sorts_differ sorts_fit fits vars few new =
     let few_params : length w.params ≤ 8 = omega (arith, parts.params, fits.few_params) in
     let few_children : length w.children ≤ 8 = omega (arith, length_children names sorts e.vars (drop r.params later) r.children, fits.few_children) in
     let depth : depth_of_all (terms_of w) ≤ 32 = omega (arith, depth_append w.patterns uses, depth_append (args_of kids) w.results, parts.patterns.depth, parts.children.depth, parts.results.depth) in
-    let symbols : symbols_in_all (terms_of w) ≤ 256 = omega (arith, symbols_append w.patterns uses, symbols_append (args_of kids) w.results, parts.patterns.symbols, parts.children.symbols, parts.results.symbols, fits.few_symbols) in
+    let symbols : symbols_in_all (terms_of w) ≤ 256 = omega (
+      arith,
+      symbols_append w.patterns uses,
+      symbols_append (args_of kids) w.results,
+      parts.patterns.symbols,
+      parts.children.symbols,
+      parts.results.symbols,
+      fits.few_symbols,
+    ) in
     let entering_few : length (entering names w) ≤ 64 = omega (arith, ap length parts.enter, vars.count, fits.few_variables) in
     let apart : Each (λ v. stands v names ≡ false) (w.params ++ results_of kids) =
     each_append (λ v. stands v names ≡ false) w.params (results_of kids)
@@ -210,7 +236,8 @@ no_fault d e cons_differ sorts_differ sorts_fit fits vars few new =
     none_told (rule_tests d w) (
       or_from (is_past_counts d w) (is_past_terms w)
           (or_from _ _ (lt-leb 1024 (length d.rules) few)
-          (or_from _ _ (le-ltb 8 (length w.patterns) few_patterns) (or_from _ _ (le-ltb 8 (length w.results) few_results) (or_from _ _ (le-ltb 8 (length w.params) few_params) (le-ltb 8 (length w.children) few_children)))))
+          (or_from _ _ (le-ltb 8 (length w.patterns) few_patterns) (or_from _ _ (le-ltb 8 (length w.results) few_results)
+          (or_from _ _ (le-ltb 8 (length w.params) few_params) (le-ltb 8 (length w.children) few_children)))))
           (or_from _ _ (le-ltb 32 (depth_of_all (terms_of w)) depth) (le-ltb 256 (symbols_in_all (terms_of w)) symbols)),
       (
         le-ltb 64 (length (entering names w)) entering_few,
@@ -222,7 +249,8 @@ no_fault d e cons_differ sorts_differ sorts_fit fits vars few new =
               or_from _ _ (not_from_true _ (stands_at sorts r.sort sorts_differ at.below)) (or_from _ _ (not_from_true _ parts.children.stand) (not_from_true _ known)),
               (
                 or_from _ _
-                    (not_from_true _ (has_sort d.sorts r.sort (length w.patterns) (length w.results) sorts_differ fits.declared (length-map r.patterns (named names e.vars) ∙ fits.takes) (length-map r.results (named names e.vars) ∙ fits.gives)))
+                    (not_from_true _ (has_sort d.sorts r.sort (length w.patterns) (length w.results) sorts_differ fits.declared
+                    (length-map r.patterns (named names e.vars) ∙ fits.takes) (length-map r.results (named names e.vars) ∙ fits.gives)))
                     (or_from _ _ (not_from_true _ parts.children.fit) (not_from_true _ arities)),
                 (
                   ap has_double parts.enter ∙ no_double e.vars vars.differ,

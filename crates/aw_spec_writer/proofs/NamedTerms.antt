@@ -74,7 +74,8 @@ variable_well cons vars v free =
 pub never_zero : (k : ℕ) → nat_eq (suc k) 0 ≡ true → ⊥
 never_zero k h = absurd (omega (arith, eqb-true (suc k) 0 h))
 
-made_well : (cons : List decl.Con) (vars : List (List ℕ)) → Differ (names_in cons) → (h : Head) (ts : Trees ℕ) → head_fits (arities_in cons) h (count ts) ≡ true → WellParts cons vars ts → Well cons vars (Made h ts)
+made_well : (cons : List decl.Con) (vars : List (List ℕ)) → Differ (names_in cons) → (h : Head) (ts : Trees ℕ) → head_fits (arities_in cons) h
+    (count ts) ≡ true → WellParts cons vars ts → Well cons vars (Made h ts)
 made_well cons vars differ (Con c) Nil fits parts =
     let names = names_in cons in
     let f = found cons c 0 fits in
@@ -108,13 +109,15 @@ made_well cons vars differ (Text t) Nil fits parts = record { known = refl; arit
 made_well cons vars differ (Text x) (More t ts) fits parts = absurd (never_zero (count ts) (and_parts (nat_eq (count (More t ts)) 0) (is_content x) fits).0)
 
 mutual
-  well : (cons : List decl.Con) (vars : List (List ℕ)) → Differ (names_in cons) → Each (λ v. stands v (names_in cons) ≡ false) vars → (t : Term) → heads_fit (arities_in cons) t ≡ true → Each (λ v. v < length vars) (leaves t) → Well cons vars t
+  well : (cons : List decl.Con) (vars : List (List ℕ)) → Differ (names_in cons) → Each (λ v. stands v (names_in cons) ≡ false) vars → (t : Term) →
+      heads_fit (arities_in cons) t ≡ true → Each (λ v. v < length vars) (leaves t) → Well cons vars t
   well cons vars differ free (Leaf v) fits below = variable_well cons vars v (each_get (λ x. stands x (names_in cons) ≡ false) [] vars v free below.0)
   well cons vars differ free (Made h ts) fits below =
       let parts = and_parts (head_fits (arities_in cons) h (count ts)) (all_heads_fit (arities_in cons) ts) fits in
       made_well cons vars differ h ts parts.0 (parts_well cons vars differ free ts parts.1 below)
 
-  parts_well : (cons : List decl.Con) (vars : List (List ℕ)) → Differ (names_in cons) → Each (λ v. stands v (names_in cons) ≡ false) vars → (ts : Trees ℕ) → all_heads_fit (arities_in cons) ts ≡ true → Each (λ v. v < length vars) (all_leaves ts) → WellParts cons vars ts
+  parts_well : (cons : List decl.Con) (vars : List (List ℕ)) → Differ (names_in cons) → Each (λ v. stands v (names_in cons) ≡ false) vars →
+      (ts : Trees ℕ) → all_heads_fit (arities_in cons) ts ≡ true → Each (λ v. v < length vars) (all_leaves ts) → WellParts cons vars ts
   parts_well cons vars differ free Nil fits below = record { known = refl; arities = refl; same = refl; depth = refl; symbols = refl; count = refl }
   parts_well cons vars differ free (More t ts) fits below =
       let parts = and_parts (heads_fit (arities_in cons) t) (all_heads_fit (arities_in cons) ts) fits in
@@ -160,7 +163,8 @@ pub record AllWell (cons : List decl.Con) (vars : List (List ℕ)) (ts : List Te
   pub symbols : symbols_in_all (map (named (names_in cons) vars) ts) ≡ symbols_of ts
   pub back : map (numbered (names_in cons) vars) (map (named (names_in cons) vars) ts) ≡ ts
 
-pub all_well : (cons : List decl.Con) (vars : List (List ℕ)) → Differ (names_in cons) → Differ vars → Each (λ v. stands v (names_in cons) ≡ false) vars → (ts : List Term) → Each (TermFits (arities_in cons)) ts → Each (λ v. v < length vars) (leaves_of ts) → AllWell cons vars ts
+pub all_well : (cons : List decl.Con) (vars : List (List ℕ)) → Differ (names_in cons) → Differ vars → Each (λ v. stands v (names_in cons) ≡ false)
+    vars → (ts : List Term) → Each (TermFits (arities_in cons)) ts → Each (λ v. v < length vars) (leaves_of ts) → AllWell cons vars ts
 all_well cons vars differ apart free [] fit below = record { known = refl; arities = refl; leaves = refl; depth = omega arith; symbols = refl; back = refl }
 all_well cons vars differ apart free (t ∷ ts) fit below =
     let names = names_in cons in

@@ -35,7 +35,8 @@ formed_of g =
     subst (λ x. IsWellFormed x (grammar_in (declarations_of g))) (declared_words g) (subst (IsWellFormed (words_of g)) (declared_grammar g) w)
 
 -- the variables of its rules have names
-each_named : (cons : List (List ℕ)) (sorts : List Sort) (rules : List Rule) → Each (λ (r : Rule). VariablesFit cons r.vars (rule_of sorts r)) rules → Each (λ (e : Entry). VariablesFit cons e.vars e.rule) (map (entry sorts) rules)
+each_named : (cons : List (List ℕ)) (sorts : List Sort) (rules : List Rule) → Each (λ (r : Rule). VariablesFit cons r.vars (rule_of sorts r)) rules →
+    Each (λ (e : Entry). VariablesFit cons e.vars e.rule) (map (entry sorts) rules)
 each_named cons sorts [] each = tt
 each_named cons sorts (r ∷ rules) each = (each.0, each_named cons sorts rules each.1)
 
@@ -47,10 +48,12 @@ pub again : (s : SpecText) → Each (λ (e : Entry). SmallNumbers e.rule) (decla
     specification (lines_of (written (spec_seen s))) ≡ Good (spec_seen s) (length (spec_lines (spec_seen s))) false
 again s numbers faces types = law (spec_seen s) (record { formed = formed_of s.grammar; numbers = numbers; variables = variables_of s.grammar; faces = faces; types = types })
 
-pub whole_text : (declared faces typing wish rules : List Line) (t0 t1 t2 t3 t4 t5 : List ℕ) → t0 ≡ [] → t1 ≡ t0 ++ text_of_lines declared → t2 ≡ t1 ++ text_of_lines faces → t3 ≡ t2 ++ text_of_lines typing → t4 ≡ t3 ++ text_of_lines wish → t5 ≡ t4 ++ text_of_lines rules →
+pub whole_text : (declared faces typing wish rules : List Line) (t0 t1 t2 t3 t4 t5 : List ℕ) → t0 ≡ [] → t1 ≡ t0 ++ text_of_lines declared →
+    t2 ≡ t1 ++ text_of_lines faces → t3 ≡ t2 ++ text_of_lines typing → t4 ≡ t3 ++ text_of_lines wish → t5 ≡ t4 ++ text_of_lines rules →
     t5 ≡ text_of_lines (declared ++ (faces ++ (typing ++ (wish ++ rules))))
 whole_text declared faces typing wish rules t0 t1 t2 t3 t4 t5 e0 e1 e2 e3 e4 e5 =
-    joined declared (faces ++ (typing ++ (wish ++ rules))) t0 t1 t5 e1 (joined faces (typing ++ (wish ++ rules)) t1 t2 t5 e2 (joined typing (wish ++ rules) t2 t3 t5 e3 (joined wish rules t3 t4 t5 e4 e5)))
+    joined declared (faces ++ (typing ++ (wish ++ rules))) t0 t1 t5 e1 (joined faces (typing ++ (wish ++ rules)) t1 t2 t5 e2
+    (joined typing (wish ++ rules) t2 t3 t5 e3 (joined wish rules t3 t4 t5 e4 e5)))
     ∙ ap (λ u. u ++ text_of_lines (declared ++ (faces ++ (typing ++ (wish ++ rules))))) e0
 
 -- what reading answers where the text spells a specification

@@ -21,6 +21,7 @@ pub two_added : (xs ys : List Line) (t0 t1 t2 : List ℕ) → t1 ≡ t0 ++ text_
 two_added xs ys t0 t1 t2 e1 e2 =
     e2 ∙ ap (λ u. u ++ text_of_lines ys) e1 ∙ append_assoc t0 (text_of_lines xs) (text_of_lines ys) ∙ ap (λ u. t0 ++ u) (sym (lines_both xs ys))
 
-pub four_added : (xs ys zs vs : List Line) (t0 t1 t2 t3 t4 : List ℕ) → t1 ≡ t0 ++ text_of_lines xs → t2 ≡ t1 ++ text_of_lines ys → t3 ≡ t2 ++ text_of_lines zs → t4 ≡ t3 ++ text_of_lines vs → t4 ≡ t0 ++ text_of_lines (xs ++ (ys ++ (zs ++ vs)))
+pub four_added : (xs ys zs vs : List Line) (t0 t1 t2 t3 t4 : List ℕ) → t1 ≡ t0 ++ text_of_lines xs → t2 ≡ t1 ++ text_of_lines ys →
+    t3 ≡ t2 ++ text_of_lines zs → t4 ≡ t3 ++ text_of_lines vs → t4 ≡ t0 ++ text_of_lines (xs ++ (ys ++ (zs ++ vs)))
 four_added xs ys zs vs t0 t1 t2 t3 t4 e1 e2 e3 e4 =
     two_added xs (ys ++ (zs ++ vs)) t0 t1 t4 e1 (two_added ys (zs ++ vs) t1 t2 t4 e2 (two_added zs vs t2 t3 t4 e3 e4))

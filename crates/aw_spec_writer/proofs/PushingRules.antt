@@ -22,7 +22,8 @@ abbrev pub lines_of_rules : List (List ℕ) → List (List ℕ) → List Sort �
 lines_of_rules cons sort_names sorts rules = map (λ (e : Entry). RuleLine (named_rule cons sort_names e)) (map (entry sorts) rules)
 
 -- one rule more
-pub rules_go_on : (cons sort_names : List (List ℕ)) (sorts : List Sort) (rules : List Rule) (i : ℕ) (r : Rule) (text new all : List ℕ) → slice_get rules i ≡ Some r → new ≡ text ++ text_of_lines (RuleLine (named_rule cons sort_names (entry sorts r)) ∷ []) →
+pub rules_go_on : (cons sort_names : List (List ℕ)) (sorts : List Sort) (rules : List Rule) (i : ℕ) (r : Rule) (text new all : List ℕ) →
+    slice_get rules i ≡ Some r → new ≡ text ++ text_of_lines (RuleLine (named_rule cons sort_names (entry sorts r)) ∷ []) →
     text ++ text_of_lines (lines_of_rules cons sort_names sorts (drop i rules)) ≡ all → new ++ text_of_lines (lines_of_rules cons sort_names sorts (drop (i + 1) rules)) ≡ all
 rules_go_on cons sort_names sorts rules i r text new all found n e =
     let line = RuleLine (named_rule cons sort_names (entry sorts r)) in
@@ -33,10 +34,12 @@ rules_go_on cons sort_names sorts rules i r text new all found n e =
     ∙ ap (λ rs. text ++ text_of_lines (lines_of_rules cons sort_names sorts rs)) (sym (at_next rules i r found))
     ∙ e
 
-pub rules_end : (cons sort_names : List (List ℕ)) (sorts : List Sort) (rules : List Rule) (i : ℕ) (text all : List ℕ) → None ≡ slice_get rules i → text ++ text_of_lines (lines_of_rules cons sort_names sorts (drop i rules)) ≡ all → text ≡ all
+pub rules_end : (cons sort_names : List (List ℕ)) (sorts : List Sort) (rules : List Rule) (i : ℕ) (text all : List ℕ) → None ≡ slice_get rules i →
+    text ++ text_of_lines (lines_of_rules cons sort_names sorts (drop i rules)) ≡ all → text ≡ all
 rules_end cons sort_names sorts rules i text all none e = sym (append-nil text) ∙ ap (λ rs. text ++ text_of_lines (lines_of_rules cons sort_names sorts rs)) (sym (past_end rules i none)) ∙ e
 
-pub each_rule : (P : Entry → Type 0) (sorts : List Sort) (rules : List Rule) (i : ℕ) (r : Rule) → slice_get rules i ≡ Some r → P (entry sorts r) → Each P (map (entry sorts) (drop (i + 1) rules)) → Each P (map (entry sorts) (drop i rules))
+pub each_rule : (P : Entry → Type 0) (sorts : List Sort) (rules : List Rule) (i : ℕ) (r : Rule) → slice_get rules i ≡ Some r → P (entry sorts r) →
+    Each P (map (entry sorts) (drop (i + 1) rules)) → Each P (map (entry sorts) (drop i rules))
 each_rule P sorts rules i r found here rest = subst (λ rs. Each P (map (entry sorts) rs)) (sym (at_next rules i r found)) (here, rest)
 
 pub each_past : (P : Entry → Type 0) (sorts : List Sort) (rules : List Rule) (i : ℕ) → None ≡ slice_get rules i → Each P (map (entry sorts) (drop i rules))

@@ -16,7 +16,8 @@ bare_text : (cons vars : List (List ℕ)) (c : ℕ) (ts : List Term) → ts ≡ 
 bare_text cons vars c [] e = refl
 bare_text cons vars c (t ∷ ts) e = cc
 
-full_text : (cons vars : List (List ℕ)) (c : ℕ) (ts : List Term) → (ts ≡ [] → ⊥) → term_text (named cons vars (Made (Con c) (join ts))) ≡ get [] cons c ++ (codes "(" ++ (terms_text (map (named cons vars) ts) ++ codes ")"))
+full_text : (cons vars : List (List ℕ)) (c : ℕ) (ts : List Term) → (ts ≡ [] → ⊥) → term_text (named cons vars (Made (Con c) (join ts))) ≡ get [] cons
+    c ++ (codes "(" ++ (terms_text (map (named cons vars) ts) ++ codes ")"))
 full_text cons vars c [] some = absurd (some refl)
 full_text cons vars c (t ∷ ts) some = ap (λ ps. get [] cons c ++ (codes "(" ++ (parts_text ps ++ codes ")"))) (named_join cons vars (t ∷ ts))
 
@@ -32,13 +33,15 @@ some_parts view [] some e = some refl
 some_parts view (p ∷ parts) some e = absurd cc
 
 -- a constructor without parts was added
-pub bare_added : {A : Type 0} (view : A → Term) (cons vars : List (List ℕ)) (t : Term) (c : ℕ) (parts : List A) (text name new : List ℕ) → t ≡ Made (Con c) (join (map view parts)) → parts ≡ [] → name ≡ get [] cons c → new ≡ text ++ name →
+pub bare_added : {A : Type 0} (view : A → Term) (cons vars : List (List ℕ)) (t : Term) (c : ℕ) (parts : List A) (text name new : List ℕ) →
+    t ≡ Made (Con c) (join (map view parts)) → parts ≡ [] → name ≡ get [] cons c → new ≡ text ++ name →
     new ≡ text ++ term_text (named cons vars t)
 bare_added view cons vars t c parts text name new e none n h =
     h ∙ ap (λ u. text ++ u) (n ∙ sym (ap (λ u. term_text (named cons vars u)) e ∙ bare_text cons vars c (map view parts) (no_parts view parts none)))
 
 -- a constructor with parts was added
-pub full_added : {A : Type 0} (view : A → Term) (cons vars : List (List ℕ)) (t : Term) (c : ℕ) (parts : List A) (text name t1 t2 t3 t4 : List ℕ) → t ≡ Made (Con c) (join (map view parts)) → (parts ≡ [] → ⊥) → name ≡ get [] cons c →
+pub full_added : {A : Type 0} (view : A → Term) (cons vars : List (List ℕ)) (t : Term) (c : ℕ) (parts : List A) (text name t1 t2 t3 t4 : List ℕ) →
+    t ≡ Made (Con c) (join (map view parts)) → (parts ≡ [] → ⊥) → name ≡ get [] cons c →
     t1 ≡ text ++ name → t2 ≡ t1 ++ codes "(" → t3 ≡ t2 ++ terms_text (map (named cons vars) (map view parts)) → t4 ≡ t3 ++ codes ")" → t4 ≡ text ++ term_text (named cons vars t)
 full_added view cons vars t c parts text name t1 t2 t3 t4 e some n e1 e2 e3 e4 =
     let x = get [] cons c in

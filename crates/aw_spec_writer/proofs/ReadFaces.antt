@@ -21,7 +21,9 @@ use Rattle.aw_spec.specs.Placed.{offering, using_by}
 use Rattle.aw_spec.specs.TypeLines.{type_names, shape_named, carry_named}
 use Rattle.aw_spec.specs.TypesFit.{TypesFit}
 use Rattle.aw_spec.proofs.KeptTypes.{reading_fits, on_is}
-use Rattle.aw_spec.specs.Reading.{Spec, Draft, On, Wrong, told_or, with_free, with_no_shape, with_no_carry, type_tests, with_type, con_place, sort_place, shape_tests, with_shape, carry_tests, with_carry, depends_tests, with_depends, declaring, if_kept, keeping, says, Good, no_draft, specification}
+use Rattle.aw_spec.specs.Reading.{Spec, Draft, On, Wrong, told_or, with_free, with_no_shape, with_no_carry, type_tests, with_type, con_place}
+use Rattle.aw_spec.specs.Reading.{sort_place, shape_tests, with_shape, carry_tests, with_carry, depends_tests, with_depends, declaring, if_kept}
+use Rattle.aw_spec.specs.Reading.{keeping, says, Good, no_draft, specification}
 use Rattle.aw_spec.proofs.KeptLines.{reading_keeps}
 use Rattle.aw_spec.proofs.TypeSteps.{later_push, each_untested as none_holds}
 use Rattle.aw_spec_writer.specs.Writable.{AreApart, FacesFit}
@@ -59,7 +61,8 @@ length_start (s ∷ sorts) (suc i) = ap (λ n. suc n) (length_start sorts i)
 longer : {A : Type 0} (xs : List A) (x : A) → length xs ≤ length (xs ++ x ∷ [])
 longer xs x = omega (arith, length-append xs (x ∷ []))
 
-declared_sound : (s after : Spec) (kind : Option DeclKind) (d : Declarations) → declaring s kind d ≡ On after → length s.declared.roles ≤ length d.roles → length s.declared.sorts ≤ length d.sorts → IsSound s → IsSound after
+declared_sound : (s after : Spec) (kind : Option DeclKind) (d : Declarations) → declaring s kind d ≡ On after → length s.declared.roles ≤ length
+    d.roles → length s.declared.sorts ≤ length d.sorts → IsSound s → IsSound after
 declared_sound s after None d e h k sound =
     subst IsSound (on_is (record s { declared = d }) after e) (more (length s.declared.roles) (length s.declared.sorts) (length d.roles) (length d.sorts) s.offers s.uses h k sound)
 declared_sound s after (Some x) d e h k sound = cc
@@ -67,7 +70,8 @@ declared_sound s after (Some x) d e h k sound = cc
 place_below : (s : Spec) (name : List ℕ) (i : ℕ) → number_named (sort_names s.declared) name ≡ Some i → i < length s.declared.sorts
 place_below s name i e = omega (arith, place_within name (sort_names s.declared) i e, length-map s.declared.sorts (λ (t : Sort). t.name))
 
-offered_sound : (s after : Spec) (i : ℕ) (t : Bool) → is_offered i s.offers ≡ t → i < length s.declared.sorts → cond t (Wrong kind.Double) (On (record s { offers = s.offers ++ i ∷ [] })) ≡ On after → IsSound s → IsSound after
+offered_sound : (s after : Spec) (i : ℕ) (t : Bool) → is_offered i s.offers ≡ t → i < length s.declared.sorts → cond t (Wrong kind.Double)
+    (On (record s { offers = s.offers ++ i ∷ [] })) ≡ On after → IsSound s → IsSound after
 offered_sound s after i true h less e sound = cc
 offered_sound s after i false h less e sound = subst IsSound (on_is (record s { offers = s.offers ++ i ∷ [] }) after e) (record {
   offers = each_push (λ sort. sort < length s.declared.sorts) s.offers i sound.offers less;
@@ -80,7 +84,8 @@ offer_sound : (s after : Spec) (name : List ℕ) (o : Option ℕ) → number_nam
 offer_sound s after name None h e sound = cc
 offer_sound s after name (Some i) h e sound = offered_sound s after i (is_offered i s.offers) refl (place_below s name i h) e sound
 
-used_sound : (s after : Spec) (u : Using) (t : Bool) → is_used u.role u.sort s.uses ≡ t → u.role < length s.declared.roles → u.sort < length s.declared.sorts → cond t (Wrong kind.Double) (On (record s { uses = s.uses ++ u ∷ [] })) ≡ On after → IsSound s → IsSound after
+used_sound : (s after : Spec) (u : Using) (t : Bool) → is_used u.role u.sort s.uses ≡ t → u.role < length s.declared.roles →
+    u.sort < length s.declared.sorts → cond t (Wrong kind.Double) (On (record s { uses = s.uses ++ u ∷ [] })) ≡ On after → IsSound s → IsSound after
 used_sound s after u true h r k e sound = cc
 used_sound s after u false h r k e sound = subst IsSound (on_is (record s { uses = s.uses ++ u ∷ [] }) after e) (record {
   offers = sound.offers;
@@ -89,7 +94,8 @@ used_sound s after u false h r k e sound = subst IsSound (on_is (record s { uses
   used_once = later_push AreApart s.uses u sound.used_once (none_holds (λ (v : Using). nat_eq v.role u.role && nat_eq v.sort u.sort) (λ v. AreApart v u) (λ v k. is_apart v u k) s.uses h);
 })
 
-use_sound : (s after : Spec) (role sort : List ℕ) (r k : Option ℕ) → number_named s.declared.roles role ≡ r → number_named (sort_names s.declared) sort ≡ k → using_by s r k ≡ On after → IsSound s → IsSound after
+use_sound : (s after : Spec) (role sort : List ℕ) (r k : Option ℕ) → number_named s.declared.roles role ≡ r → number_named (sort_names s.declared)
+    sort ≡ k → using_by s r k ≡ On after → IsSound s → IsSound after
 use_sound s after role sort None k hr hk e sound = cc
 use_sound s after role sort (Some r) None hr hk e sound = cc
 use_sound s after role sort (Some r) (Some k) hr hk e sound =
@@ -113,7 +119,8 @@ said_sound s after (ConLine name arity) e sound = declared_sound (with_no_shape 
 said_sound s after (SortLine name role takes gives) e sound = declared_sound (with_no_carry s) after _ _ e (omega arith) (longer s.declared.sorts _) sound
 said_sound s after (StartLine sort) e sound = declared_sound s after _ _ e (omega arith) (omega (arith, length_start s.declared.sorts (number_of sort (sort_names s.declared)))) sound
 said_sound s after (OfferLine sort) e sound = offer_sound s after sort (number_named (sort_names s.declared) sort) refl (sym (offer_by s sort) ∙ e) sound
-said_sound s after (UseLine role sort) e sound = use_sound s after role sort (number_named s.declared.roles role) (number_named (sort_names s.declared) sort) refl refl (sym (use_by s role sort) ∙ e) sound
+said_sound s after (UseLine role sort) e sound = use_sound s after role sort (number_named s.declared.roles role)
+    (number_named (sort_names s.declared) sort) refl refl (sym (use_by s role sort) ∙ e) sound
 said_sound s after (TypeLine name) e sound = subst IsSound (tested_on (type_tests s name) (with_type s name) after e).1 sound
 said_sound s after (ShapeLine con parts own) e sound =
     let shape = shape_named (type_names s.types) parts own in subst IsSound (tested_on (shape_tests s (con_place s con) shape) (with_shape s (con_place s con) shape) after e).1 sound
@@ -126,5 +133,6 @@ said_sound s after (ScheduleLine loads) e sound = cc
 
 pub read_fits : (lines : List (List ℕ)) (s : Spec) (n : ℕ) (loads : Bool) → specification lines ≡ Good s n loads → face_fault (grammar_in s.declared) s.offers s.uses ≡ None → FacesFit s × TypesFit s
 read_fits lines s n loads e kept =
-    let sound = reading_keeps (λ (d : Draft). IsSound d.spec) IsSound (λ d after line named h le sound. said_sound d.spec after line h sound) (λ d sound. sound) no_draft 0 n s loads lines (record { offers = tt; offered_once = tt; uses = tt; used_once = tt }) e in
+    let sound = reading_keeps (λ (d : Draft). IsSound d.spec) IsSound (λ d after line named h le sound. said_sound d.spec after line h sound)
+    (λ d sound. sound) no_draft 0 n s loads lines (record { offers = tt; offered_once = tt; uses = tt; used_once = tt }) e in
     (record { kept = kept; offers = sound.offers; offered_once = sound.offered_once; uses = sound.uses; used_once = sound.used_once }, reading_fits lines s n loads e)

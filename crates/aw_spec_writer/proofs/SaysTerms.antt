@@ -7,7 +7,9 @@ use Rattle.aw_term.specs.WellFormed.{Each}
 use Rattle.aw_grammar.specs.Written.{Written, Word, Apply, Literal, Writtens, Empty, Then, WrittenChild, WrittenRule, side_by_side}
 use Rattle.aw_term_reader.specs.Lexemes.{Lexeme, Name, Number, Mark}
 use Rattle.aw_term_reader.specs.Terms.{spelling, spellings, spellings_behind}
-use Rattle.aw_spec.specs.Lines.{Line, RoleLine, ConLine, SortLine, StartLine, OfferLine, UseLine, TypeLine, ShapeLine, CarryLine, DependsLine, FreeLine, RuleLine, ScheduleLine, as_words, in_parentheses, in_angles, params_spelling, child_spelling, behind_child, children_spelling, rule_spelling, line_spelling}
+use Rattle.aw_spec.specs.Lines.{Line, RoleLine, ConLine, SortLine, StartLine, OfferLine, UseLine, TypeLine, ShapeLine, CarryLine, DependsLine, FreeLine}
+use Rattle.aw_spec.specs.Lines.{RuleLine, ScheduleLine, as_words, in_parentheses, in_angles, params_spelling, child_spelling, behind_child}
+use Rattle.aw_spec.specs.Lines.{children_spelling, rule_spelling, line_spelling}
 use Rattle.aw_spec_writer.specs.LineTexts.{term_text, parts_text, parts_behind, terms_text, names_text, params_text, child_text, children_behind, children_text, rule_text, line_text}
 use Rattle.aw_term_reader.proofs.Lexing.{Ends}
 use Rattle.aw_term_reader.proofs.SaysTokens.{Says, moved, says_nothing, says_blank, says_name, says_number, says_text, says_mark, says_last_name, says_last_number}
@@ -40,7 +42,8 @@ mutual
   term_says : (t : Written) (bs : List ℕ) (ls : List Lexeme) → IsSpelledTerm t → Ends bs → Says bs ls → Says (term_text t ++ bs) (spelling t ++ ls)
   term_says (Word n) bs ls h e s = says_name n bs ls h e s
   term_says (Apply n ts) bs ls h e s =
-      moved ((n ++ (codes "(" ++ (parts_text ts ++ codes ")"))) ++ bs) (n ++ 40 ∷ (parts_text ts ++ 41 ∷ bs)) (Name n ∷ Mark 40 ∷ ((spellings ts ++ Mark 41 ∷ []) ++ ls)) (Name n ∷ Mark 40 ∷ (spellings ts ++ Mark 41 ∷ ls))
+      moved ((n ++ (codes "(" ++ (parts_text ts ++ codes ")"))) ++ bs) (n ++ 40 ∷ (parts_text ts ++ 41 ∷ bs))
+      (Name n ∷ Mark 40 ∷ ((spellings ts ++ Mark 41 ∷ []) ++ ls)) (Name n ∷ Mark 40 ∷ (spellings ts ++ Mark 41 ∷ ls))
       (append_assoc n (40 ∷ (parts_text ts ++ 41 ∷ [])) bs ∙ ap (λ xs. n ++ 40 ∷ xs) (append_assoc (parts_text ts) (41 ∷ []) bs))
       (ap (λ ks. Name n ∷ Mark 40 ∷ ks) (append_assoc (spellings ts) (Mark 41 ∷ []) ls))
       (says_name n (40 ∷ (parts_text ts ++ 41 ∷ bs)) (Mark 40 ∷ (spellings ts ++ Mark 41 ∷ ls)) h.0 refl
@@ -60,7 +63,8 @@ mutual
   behind_says : (ts : Writtens) (bs : List ℕ) (ls : List Lexeme) → AreSpelledParts ts → Ends bs → Says bs ls → Says (parts_behind ts ++ bs) (spellings_behind ts ++ ls)
   behind_says Empty bs ls h e s = s
   behind_says (Then t ts) bs ls h e s =
-      moved (44 ∷ 32 ∷ ((term_text t ++ parts_behind ts) ++ bs)) (44 ∷ 32 ∷ (term_text t ++ (parts_behind ts ++ bs))) (Mark 44 ∷ ((spelling t ++ spellings_behind ts) ++ ls)) (Mark 44 ∷ (spelling t ++ (spellings_behind ts ++ ls)))
+      moved (44 ∷ 32 ∷ ((term_text t ++ parts_behind ts) ++ bs)) (44 ∷ 32 ∷ (term_text t ++ (parts_behind ts ++ bs)))
+      (Mark 44 ∷ ((spelling t ++ spellings_behind ts) ++ ls)) (Mark 44 ∷ (spelling t ++ (spellings_behind ts ++ ls)))
       (ap (λ xs. 44 ∷ 32 ∷ xs) (append_assoc (term_text t) (parts_behind ts) bs)) (ap (λ ks. Mark 44 ∷ ks) (append_assoc (spelling t) (spellings_behind ts) ls))
       (says_mark 44 (32 ∷ (term_text t ++ (parts_behind ts ++ bs))) (spelling t ++ (spellings_behind ts ++ ls)) refl refl refl
       (says_blank (term_text t ++ (parts_behind ts ++ bs)) (spelling t ++ (spellings_behind ts ++ ls))
@@ -72,14 +76,16 @@ AreSpelled ts = AreSpelledParts (side_by_side ts)
 -- terms between parentheses, and between angles
 in_parentheses_say : (ts : List Written) (bs : List ℕ) (ls : List Lexeme) → AreSpelled ts → Says bs ls → Says (40 ∷ (terms_text ts ++ 41 ∷ bs)) (in_parentheses ts ++ ls)
 in_parentheses_say ts bs ls h s =
-    moved (40 ∷ (terms_text ts ++ 41 ∷ bs)) (40 ∷ (terms_text ts ++ 41 ∷ bs)) (Mark 40 ∷ ((spellings (side_by_side ts) ++ Mark 41 ∷ []) ++ ls)) (Mark 40 ∷ (spellings (side_by_side ts) ++ Mark 41 ∷ ls)) refl
+    moved (40 ∷ (terms_text ts ++ 41 ∷ bs)) (40 ∷ (terms_text ts ++ 41 ∷ bs)) (Mark 40 ∷ ((spellings (side_by_side ts) ++ Mark 41 ∷ []) ++ ls))
+    (Mark 40 ∷ (spellings (side_by_side ts) ++ Mark 41 ∷ ls)) refl
     (ap (λ ks. Mark 40 ∷ ks) (append_assoc (spellings (side_by_side ts)) (Mark 41 ∷ []) ls))
     (says_mark 40 (terms_text ts ++ 41 ∷ bs) (spellings (side_by_side ts) ++ Mark 41 ∷ ls) refl refl refl
     (parts_say (side_by_side ts) (41 ∷ bs) (Mark 41 ∷ ls) h refl (says_mark 41 bs ls refl refl refl s)))
 
 in_angles_say : (ts : List Written) (bs : List ℕ) (ls : List Lexeme) → AreSpelled ts → Says bs ls → Says (60 ∷ (terms_text ts ++ 62 ∷ bs)) (in_angles ts ++ ls)
 in_angles_say ts bs ls h s =
-    moved (60 ∷ (terms_text ts ++ 62 ∷ bs)) (60 ∷ (terms_text ts ++ 62 ∷ bs)) (Mark 60 ∷ ((spellings (side_by_side ts) ++ Mark 62 ∷ []) ++ ls)) (Mark 60 ∷ (spellings (side_by_side ts) ++ Mark 62 ∷ ls)) refl
+    moved (60 ∷ (terms_text ts ++ 62 ∷ bs)) (60 ∷ (terms_text ts ++ 62 ∷ bs)) (Mark 60 ∷ ((spellings (side_by_side ts) ++ Mark 62 ∷ []) ++ ls))
+    (Mark 60 ∷ (spellings (side_by_side ts) ++ Mark 62 ∷ ls)) refl
     (ap (λ ks. Mark 60 ∷ ks) (append_assoc (spellings (side_by_side ts)) (Mark 62 ∷ []) ls))
     (says_mark 60 (terms_text ts ++ 62 ∷ bs) (spellings (side_by_side ts) ++ Mark 62 ∷ ls) refl refl refl
     (parts_say (side_by_side ts) (62 ∷ bs) (Mark 62 ∷ ls) h refl (says_mark 62 bs ls refl refl refl s)))
@@ -92,7 +98,8 @@ params_say : (ns : List (List ℕ)) (bs : List ℕ) (ls : List Lexeme) → Each 
 params_say [] bs ls h s = s
 params_say (n ∷ ns) bs ls h s =
     let ts = side_by_side (as_words (n ∷ ns)) in
-    moved (32 ∷ 123 ∷ ((parts_text ts ++ 125 ∷ []) ++ 32 ∷ bs)) (32 ∷ 123 ∷ (parts_text ts ++ 125 ∷ 32 ∷ bs)) (Mark 123 ∷ ((spellings ts ++ Mark 125 ∷ []) ++ ls)) (Mark 123 ∷ (spellings ts ++ Mark 125 ∷ ls))
+    moved (32 ∷ 123 ∷ ((parts_text ts ++ 125 ∷ []) ++ 32 ∷ bs)) (32 ∷ 123 ∷ (parts_text ts ++ 125 ∷ 32 ∷ bs))
+    (Mark 123 ∷ ((spellings ts ++ Mark 125 ∷ []) ++ ls)) (Mark 123 ∷ (spellings ts ++ Mark 125 ∷ ls))
     (ap (λ xs. 32 ∷ 123 ∷ xs) (append_assoc (parts_text ts) (125 ∷ []) (32 ∷ bs))) (ap (λ ks. Mark 123 ∷ ks) (append_assoc (spellings ts) (Mark 125 ∷ []) ls))
     (says_blank (123 ∷ (parts_text ts ++ 125 ∷ 32 ∷ bs)) (Mark 123 ∷ (spellings ts ++ Mark 125 ∷ ls))
     (says_mark 123 (parts_text ts ++ 125 ∷ 32 ∷ bs) (spellings ts ++ Mark 125 ∷ ls) refl refl refl
@@ -220,7 +227,8 @@ line_says (CarryLine sort takes gives) h =
     (says_name sort (32 ∷ last) words h.0 refl
     (says_blank last words
     (in_parentheses_say (as_words takes) angles (in_angles (as_words gives)) (words_spelled takes h.1)
-    (moved angles angles (in_angles (as_words gives)) (in_angles (as_words gives) ++ []) refl (sym (append-nil (in_angles (as_words gives)))) (in_angles_say (as_words gives) [] [] (words_spelled gives h.2) says_nothing))))))
+    (moved angles angles (in_angles (as_words gives)) (in_angles (as_words gives) ++ []) refl (sym (append-nil (in_angles (as_words gives))))
+    (in_angles_say (as_words gives) [] [] (words_spelled gives h.2) says_nothing))))))
 line_says (DependsLine sort i j) h =
     let last = decimal i ++ 32 ∷ decimal j in
     says_name (codes "depends") (32 ∷ (sort ++ 32 ∷ last)) (Name sort ∷ Number i ∷ Number j ∷ []) refl refl

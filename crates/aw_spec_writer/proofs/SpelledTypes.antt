@@ -31,21 +31,27 @@ shape_spelled : (all : List (List ℕ)) (n arity : ℕ) (con : List ℕ) (o : Op
 shape_spelled all n arity con None names le named fit = tt
 shape_spelled all n arity con (Some x) names le named fit = ((named, names_spelled all x.parts n names le fit.2, each_get IsName [] all x.own names (omega (arith, fit.1, le))), tt)
 
-shapes_spelled : (all : List (List ℕ)) (n : ℕ) (os : List (Option Shape)) (cons : List decl.Con) → Each IsName all → n ≤ length all → Each IsName (map (λ (c : decl.Con). c.name) cons) → Alongside (ShapeFits n) (map (λ (c : decl.Con). c.arity) cons) os → Each IsSpelledLine (shape_lines all os cons)
+shapes_spelled : (all : List (List ℕ)) (n : ℕ) (os : List (Option Shape)) (cons : List decl.Con) → Each IsName all → n ≤ length all →
+    Each IsName (map (λ (c : decl.Con). c.name) cons) → Alongside (ShapeFits n) (map (λ (c : decl.Con). c.arity) cons) os →
+    Each IsSpelledLine (shape_lines all os cons)
 shapes_spelled all n [] cons names le named fit = tt
 shapes_spelled all n (o ∷ os) [] names le named fit = tt
 shapes_spelled all n (o ∷ os) (c ∷ cons) names le named fit =
     each_append IsSpelledLine (shape_line all c.name o) (shape_lines all os cons) (shape_spelled all n c.arity c.name o names le named.0 fit.0) (shapes_spelled all n os cons names le named.1 fit.1)
 
-carry_spelled : (all : List (List ℕ)) (n : ℕ) (counts : ℕ × ℕ) (sort : List ℕ) (o : Option Carry) → Each IsName all → n ≤ length all → IsName sort → CarryFits n counts o → Each IsSpelledLine (carry_line all sort o)
+carry_spelled : (all : List (List ℕ)) (n : ℕ) (counts : ℕ × ℕ) (sort : List ℕ) (o : Option Carry) → Each IsName all → n ≤ length all → IsName sort →
+    CarryFits n counts o → Each IsSpelledLine (carry_line all sort o)
 carry_spelled all n counts sort None names le named fit = tt
 carry_spelled all n counts sort (Some k) names le named fit = ((named, names_spelled all k.takes n names le fit.2, names_spelled all k.gives n names le fit.3), tt)
 
-carries_spelled : (all : List (List ℕ)) (n : ℕ) (os : List (Option Carry)) (sorts : List Sort) → Each IsName all → n ≤ length all → Each IsName (map (λ (s : Sort). s.name) sorts) → Alongside (CarryFits n) (map (λ (s : Sort). (s.takes, s.gives)) sorts) os → Each IsSpelledLine (carry_lines all os sorts)
+carries_spelled : (all : List (List ℕ)) (n : ℕ) (os : List (Option Carry)) (sorts : List Sort) → Each IsName all → n ≤ length all →
+    Each IsName (map (λ (s : Sort). s.name) sorts) → Alongside (CarryFits n) (map (λ (s : Sort). (s.takes, s.gives)) sorts) os →
+    Each IsSpelledLine (carry_lines all os sorts)
 carries_spelled all n [] sorts names le named fit = tt
 carries_spelled all n (o ∷ os) [] names le named fit = tt
 carries_spelled all n (o ∷ os) (s ∷ sorts) names le named fit =
-    each_append IsSpelledLine (carry_line all s.name o) (carry_lines all os sorts) (carry_spelled all n (s.takes, s.gives) s.name o names le named.0 fit.0) (carries_spelled all n os sorts names le named.1 fit.1)
+    each_append IsSpelledLine (carry_line all s.name o) (carry_lines all os sorts) (carry_spelled all n (s.takes, s.gives) s.name o names le named.0
+    fit.0) (carries_spelled all n os sorts names le named.1 fit.1)
 
 -- a sort has few inherited values and few results
 few_counts : (roles : ℕ) (sorts : List Sort) (i : ℕ) (s : Sort) → Each (λ (t : Sort). SortFits roles (sort_of t)) sorts → slice_get sorts i ≡ Some s → (s.takes ≤ 8) × (s.gives ≤ 8)
@@ -54,7 +60,8 @@ few_counts roles (t ∷ sorts) zero s fits e =
     let same : t ≡ s = cc in subst (λ (u : Sort). (u.takes ≤ 8) × (u.gives ≤ 8)) same (fits.0.few_takes, fits.0.few_gives)
 few_counts roles (t ∷ sorts) (suc i) s fits e = few_counts roles sorts i s fits.1 e
 
-depends_spelled : (d : Declarations) (ds : List Triple) → Each IsName (sort_names d) → Each (λ (t : Sort). SortFits (length d.roles) (sort_of t)) d.sorts → Each (IsOfSort (counts_in d)) ds → Each IsSpelledLine (map (depends_line (sort_names d)) ds)
+depends_spelled : (d : Declarations) (ds : List Triple) → Each IsName (sort_names d) → Each (λ (t : Sort). SortFits (length d.roles) (sort_of t))
+    d.sorts → Each (IsOfSort (counts_in d)) ds → Each IsSpelledLine (map (depends_line (sort_names d)) ds)
 depends_spelled d [] names fits declared = tt
 depends_spelled d (x ∷ ds) names fits declared =
     let found = declared.0 in
@@ -63,11 +70,16 @@ depends_spelled d (x ∷ ds) names fits declared =
     let takes : from.0.takes ≡ found.0.0 = ap (λ (c : ℕ × ℕ). c.0) from.2 in
     let gives : from.0.gives ≡ found.0.1 = ap (λ (c : ℕ × ℕ). c.1) from.2 in
     let small : (n : ℕ) → n ≤ 8 → n < 2 ^ 64 = λ n h. omega (arith, h) in (
-      (each_get IsName [] (sort_names d) x.sort names (named_below d.sorts x.sort (some_within d.sorts x.sort from.0 from.1)), small x.i (omega (arith, few.0, takes, found.3)), small x.j (omega (arith, few.1, gives, found.5))),
+      (
+        each_get IsName [] (sort_names d) x.sort names (named_below d.sorts x.sort (some_within d.sorts x.sort from.0 from.1)),
+        small x.i (omega (arith, few.0, takes, found.3)),
+        small x.j (omega (arith, few.1, gives, found.5)),
+      ),
       depends_spelled d ds names fits declared.1,
     )
 
-pub typing_spelled : (s : Spec) → Each IsName (con_names s.declared) → Each IsName (sort_names s.declared) → Each (λ (t : Sort). SortFits (length s.declared.roles) (sort_of t)) s.declared.sorts → TypesFit s → Each IsSpelledLine (typing_lines s)
+pub typing_spelled : (s : Spec) → Each IsName (con_names s.declared) → Each IsName (sort_names s.declared) →
+    Each (λ (t : Sort). SortFits (length s.declared.roles) (sort_of t)) s.declared.sorts → TypesFit s → Each IsSpelledLine (typing_lines s)
 typing_spelled s cons sorts fits types =
     let d = s.declared in
     let t = s.types in

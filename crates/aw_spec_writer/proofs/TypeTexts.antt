@@ -73,7 +73,9 @@ got_none (y ∷ names) (suc i) h = got_none names i h
 grouped : (t a s b n c m d e : List ℕ) → ((((((t ++ a) ++ s) ++ b) ++ n) ++ c) ++ m) ++ (d ++ e) ≡ t ++ ((a ++ (s ++ (b ++ (n ++ (c ++ (m ++ d)))))) ++ (e ++ []))
 grouped t a s b n c m d e = simp (append_assoc, append-nil)
 
-pub carry_added : (all : List (List ℕ)) (sort : List ℕ) (k : Carry) (t0 t1 t2 t3 t4 t5 t6 t7 : List ℕ) → t1 ≡ t0 ++ codes "carry " → t2 ≡ t1 ++ sort → t3 ≡ t2 ++ codes " (" → t4 ≡ t3 ++ names_text (map (get [] all) k.takes) → t5 ≡ t4 ++ codes ")<" → t6 ≡ t5 ++ names_text (map (get [] all) k.gives) → t7 ≡ t6 ++ codes ">\n" →
+pub carry_added : (all : List (List ℕ)) (sort : List ℕ) (k : Carry) (t0 t1 t2 t3 t4 t5 t6 t7 : List ℕ) → t1 ≡ t0 ++ codes "carry " → t2 ≡ t1 ++ sort →
+    t3 ≡ t2 ++ codes " (" → t4 ≡ t3 ++ names_text (map (get [] all) k.takes) → t5 ≡ t4 ++ codes ")<" → t6 ≡ t5 ++ names_text
+    (map (get [] all) k.gives) → t7 ≡ t6 ++ codes ">\n" →
     t7 ≡ t0 ++ text_of_lines (carry_line all sort (Some k))
 carry_added all sort k t0 t1 t2 t3 t4 t5 t6 t7 e1 e2 e3 e4 e5 e6 e7 =
     let n = names_text (map (get [] all) k.takes) in

@@ -1,5 +1,6 @@
 -- A name that is cut off at a mark ends at the first byte that may not stand in a name.
-use Rattle.std.proofs.Common.{◌≡◌, ℕ, suc, ◌+◌, ◌<◌, refl, sym, ◌∙◌, ap, subst, Bool, true, false, cond, not, ◌==◌, ◌&&◌, List, [], ◌∷◌, ◌++◌, take, drop, length, get_or, arith, Option, Some, None, IfSome, option_map, drop-cons, take-append-drop, drop-drop, add-one}
+use Rattle.std.proofs.Common.{◌≡◌, ℕ, suc, ◌+◌, ◌<◌, refl, sym, ◌∙◌, ap, subst, Bool, true, false, cond, not, ◌==◌, ◌&&◌, List, [], ◌∷◌, ◌++◌, take}
+use Rattle.std.proofs.Common.{drop, length, get_or, arith, Option, Some, None, IfSome, option_map, drop-cons, take-append-drop, drop-drop, add-one}
 use Rattle.std.proofs.lemmas.Bool.{not-true, and_parts, ne_eqb, eq-eqb}
 use Rattle.std.proofs.lemmas.List.Sums.{prefix_len_stops}
 use Rattle.std.specs.List.{list_all, prefix_len}

@@ -1,11 +1,15 @@
 -- A node name that is printed is read again.
-use Rattle.std.proofs.Common.{◌≡◌, ℕ, suc, ◌+◌, ◌-◌, ◌^◌, ◌≤◌, ◌<◌, refl, sym, ◌∙◌, ap, inl, inr, Bool, true, false, cond, not, ◌==◌, ◌&&◌, ◌||◌, List, [], ◌∷◌, ◌++◌, map, length, arith, Option, Some, None, is_some, option_map, option_and_then, nat_le, nat_lt, append_assoc, append-nil}
+use Rattle.std.proofs.Common.{◌≡◌, ℕ, suc, ◌+◌, ◌-◌, ◌^◌, ◌≤◌, ◌<◌, refl, sym, ◌∙◌, ap, inl, inr, Bool, true, false, cond, not, ◌==◌, ◌&&◌, ◌||◌, List}
+use Rattle.std.proofs.Common.{[], ◌∷◌, ◌++◌, map, length, arith, Option, Some, None, is_some, option_map, option_and_then, nat_le, nat_lt, append_assoc}
+use Rattle.std.proofs.Common.{append-nil}
 use Rattle.std.proofs.lemmas.Bool.{not-true, and_parts, ltb-true, eq-eqb}
 use Rattle.std.proofs.lemmas.Bool.Decides.{nat_tests, eqb_tells}
 use Rattle.std.proofs.lemmas.List.Folds.{list_all-append}
 use Rattle.std.specs.List.{list_all}
 use Rattle.std.specs.Fmt.{decimal}
-use Rattle.aw_spelling.specs.Spelling.{cut, with_front, is_name, is_name_byte, is_digit, is_letter, is_step, has_spelling, spelled_steps, spelled_name, parts, parts_of_name, name_from, start_of, step_of, steps_of, child_of, number_of, node_name, is_numeral, if_word, value_after}
+use Rattle.aw_spelling.specs.Spelling.{cut, with_front, is_name, is_name_byte, is_digit, is_letter, is_step, has_spelling, spelled_steps, spelled_name}
+use Rattle.aw_spelling.specs.Spelling.{parts, parts_of_name, name_from, start_of, step_of, steps_of, child_of, number_of, node_name, is_numeral}
+use Rattle.aw_spelling.specs.Spelling.{if_word, value_after}
 use Rattle.aw_spelling.proofs.Cuts.{split_after, split_by_cut}
 use Rattle.aw_spelling.proofs.Numbers.{numeral_digits, number_again, decimal_digits}
 

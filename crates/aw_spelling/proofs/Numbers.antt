@@ -1,5 +1,6 @@
 -- Reading digits, where a number that is too large stays too large.
-use Rattle.std.proofs.Common.{◌≡◌, ℕ, ◌+◌, ◌-◌, ◌*◌, ◌^◌, ◌≤◌, ◌<◌, ◌∙◌, ap, List, [], ◌∷◌, drop, length, get_or, arith, Some, None, is_some, Bool, true, false, refl, nat_le, rules, zero, suc, cond, not, ◌==◌, ◌&&◌}
+use Rattle.std.proofs.Common.{◌≡◌, ℕ, ◌+◌, ◌-◌, ◌*◌, ◌^◌, ◌≤◌, ◌<◌, ◌∙◌, ap, List, [], ◌∷◌, drop, length, get_or, arith, Some, None, is_some, Bool}
+use Rattle.std.proofs.Common.{true, false, refl, nat_le, rules, zero, suc, cond, not, ◌==◌, ◌&&◌}
 use Rattle.std.proofs.Math.Nat.{mul-le-mul_right, mul_assoc}
 use Rattle.std.proofs.lemmas.Bool.{and_parts}
 use Rattle.std.proofs.lemmas.Bool.Decides.{nat_tests}

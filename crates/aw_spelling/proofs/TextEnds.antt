@@ -1,5 +1,6 @@
 -- A text that stands before other bytes is a text by itself.
-use Rattle.std.proofs.Common.{◌≡◌, ℕ, suc, ◌+◌, ◌-◌, refl, sym, ◌∙◌, ap, subst, inl, inr, Bool, true, false, cond, ◌==◌, List, [], ◌∷◌, take, drop, ◌++◌, length, arith, Option, Some, None, is_some, IfSome, option_map, option_and_then, nat_le}
+use Rattle.std.proofs.Common.{◌≡◌, ℕ, suc, ◌+◌, ◌-◌, refl, sym, ◌∙◌, ap, subst, inl, inr, Bool, true, false, cond, ◌==◌, List, [], ◌∷◌, take, drop}
+use Rattle.std.proofs.Common.{◌++◌, length, arith, Option, Some, None, is_some, IfSome, option_map, option_and_then, nat_le}
 use Rattle.std.proofs.lemmas.Bool.Decides.{eqb_tells}
 use Rattle.std.proofs.lemmas.List.{take-append-drop}
 use Rattle.aw_spelling.specs.Spelling.{with_front, content_before_quote, text_behind_quote, whole, unquoted, escaped, stands_for_itself}

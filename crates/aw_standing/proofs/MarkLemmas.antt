@@ -1,5 +1,6 @@
 -- The marks of a record before any test.
-use Rattle.std.proofs.Common.{◌≡◌, ℕ, zero, suc, ◌+◌, Bool, true, false, cond, List, [], ◌∷◌, ◌++◌, length, map, Option, Some, None, slice_get, refl, sym, ap, ◌∙◌, subst, arith, drop, append_assoc, add-one}
+use Rattle.std.proofs.Common.{◌≡◌, ℕ, zero, suc, ◌+◌, Bool, true, false, cond, List, [], ◌∷◌, ◌++◌, length, map, Option, Some, None, slice_get, refl}
+use Rattle.std.proofs.Common.{sym, ap, ◌∙◌, subst, arith, drop, append_assoc, add-one}
 use Rattle.std.specs.Prelude.{nat_eq, All, option_map}
 use Rattle.std.proofs.lemmas.Option.{slice_get-map}
 use Rattle.std.proofs.Common.{Bor}
@@ -95,7 +96,8 @@ pub rule_past : (s n : ℕ) (rules : List Rule) (ms : List ℕ) → slice_get ru
 rule_past s n rules ms past = rw (add-one n, (none_here rules n past).0, (none_here rules n past).1) refl
 
 -- the rule that was found
-pub found_rule : (rules : List GrammarRule) (number : ℕ) (found : Option (Bor GrammarRule)) (rule : Bor GrammarRule) → option_copied found ≡ slice_get rules number → found ≡ Some rule → slice_get rules number ≡ Some rule.now
+pub found_rule : (rules : List GrammarRule) (number : ℕ) (found : Option (Bor GrammarRule)) (rule : Bor GrammarRule) → option_copied found ≡ slice_get
+    rules number → found ≡ Some rule → slice_get rules number ≡ Some rule.now
 found_rule rules number found rule e f = sym e ∙ ap option_copied f
 
 pub no_rule : (rules : List GrammarRule) (number : ℕ) (found : Option (Bor GrammarRule)) → option_copied found ≡ slice_get rules number → found ≡ None → slice_get rules number ≡ None

@@ -180,7 +180,8 @@ module _ (g : Grammar) (names : List Ref) (at n : ℕ) (ns : List ℕ) (xs ys : 
       of_by i m h z e (inr (d, u)) (inl (s, t)) = absurd (d (place_here i m e s))
       of_by i m h z e (inl (s, _, _, _)) (inr (d, w)) = absurd (d (number_here i m e s))
       of_by i m h z e (inr (_, u)) (inr (_, w)) = f.of_node i m h z e u w
-      of_by i m h z e (inl (_, was, u, done)) (inl (s, t)) = subst (λ v. IsOf g names v z) (sym done) (subst (IsOf g names (record was { done = Some c })) (sym t) (of_done (f.of_node i n was x (e ∙ ap Some s) u old)))
+      of_by i m h z e (inl (_, was, u, done)) (inl (s, t)) = subst (λ v. IsOf g names v z) (sym done)
+          (subst (IsOf g names (record was { done = Some c })) (sym t) (of_done (f.of_node i n was x (e ∙ ap Some s) u old)))
         where
           of_done : IsOf g names was x → IsOf g names (record was { done = Some c }) y
           of_done o = record {

@@ -116,7 +116,8 @@ kept_some false k old = omega arith
 pub kept_lacking : (k : Map) (old new : List Equation) (r : Ref) → IsKept old new r → lacking k (map equation_of new) ≤ lacking k (map equation_of old)
 kept_lacking k old new r w = subst (λ x. lacking k (map equation_of x) ≤ lacking k (map equation_of old)) (sym w) (kept_some _ k old)
 
-room_test : (b : Bool) (k : Map) (old : List Equation) (e : Equation) (n most : ℕ) → is_none (find (map equation_of old) e.left) ≡ b → is_none (find k e.left) ≡ true → n + lacking k (map equation_of old) ≤ most → n + 1 ≤ most →
+room_test : (b : Bool) (k : Map) (old : List Equation) (e : Equation) (n most : ℕ) → is_none (find (map equation_of old) e.left) ≡ b →
+    is_none (find k e.left) ≡ true → n + lacking k (map equation_of old) ≤ most → n + 1 ≤ most →
     (n + 1) + lacking (k ++ equation_of e ∷ []) (map equation_of (cond b [] old)) ≤ most
 room_test true k old e n most t f l m = omega (arith, m)
 room_test false k old e n most t f l m = omega (arith, l, lacking-one k (map equation_of old) (equation_of e) f t)
@@ -129,19 +130,22 @@ kept_room k old new e n most w f l m = subst (λ x. (n + 1) + lacking (k ++ equa
 pub member_lacks : (k ready : Map) (e : P.Equation) → Contains ready e → find k e.left ≡ None → 1 ≤ lacking k ready
 member_lacks k ready e m f = omega (arith, lacking-one k ready e (ap is_none f) (member_found ready e m))
 
-pub has_names-take : (ns : List Ref) (es : List Equation) (i : ℕ) (e : Equation) → i < length es → e ≡ get_or es i e → has_names ns (map equation_of (take i es)) ≡ true → has_names_of ns (equation_of e) ≡ true → has_names ns (map equation_of (take (i + 1) es)) ≡ true
+pub has_names-take : (ns : List Ref) (es : List Equation) (i : ℕ) (e : Equation) → i < length es → e ≡ get_or es i e →
+    has_names ns (map equation_of (take i es)) ≡ true → has_names_of ns (equation_of e) ≡ true → has_names ns (map equation_of (take (i + 1) es)) ≡ true
 has_names-take ns es i e l f w v =
     ap (λ x. has_names ns (map equation_of x)) (take_more es i e l ∙ ap (λ x. take i es ++ x ∷ []) (sym f)) ∙ ap (has_names ns) (map_push equation_of (take i es) e)
     ∙ has_names-push ns (map equation_of (take i es)) (equation_of e) w v
 
 -- Which names came
-among_all : (es : List Equation) (i : ℕ) (e : Equation) (q : Ref) → i < length es → e ≡ get_or es i e → is_named (refs_in (equation_of e)) q ≡ true → is_named (all_refs_in (map equation_of es)) q ≡ true
+among_all : (es : List Equation) (i : ℕ) (e : Equation) (q : Ref) → i < length es → e ≡ get_or es i e → is_named (refs_in (equation_of e)) q ≡ true →
+    is_named (all_refs_in (map equation_of es)) q ≡ true
 among_all [] i e q l f w = absurd (omega (arith, l))
 among_all (x ∷ es) zero e q l f w = is_named-append (refs_in (equation_of x)) _ q (ap (λ y. is_named (refs_in (equation_of y)) q) (sym f) ∙ w)
 among_all (x ∷ es) (suc i) e q l f w = is_named-behind (refs_in (equation_of x)) _ q (among_all es i e q (omega (arith, l)) f w)
 
 -- a step of a loop over equations
-pub only_at : (a b c : List Ref) (es : List Equation) (i : ℕ) (e : Equation) → i < length es → e ≡ get_or es i e → NamesOnly a b (all_refs_in (map equation_of es)) → NamesOnly b c (refs_in (equation_of e)) → NamesOnly a c (all_refs_in (map equation_of es))
+pub only_at : (a b c : List Ref) (es : List Equation) (i : ℕ) (e : Equation) → i < length es → e ≡ get_or es i e →
+    NamesOnly a b (all_refs_in (map equation_of es)) → NamesOnly b c (refs_in (equation_of e)) → NamesOnly a c (all_refs_in (map equation_of es))
 only_at a b c es i e l f g h =
     let all = all_refs_in (map equation_of es) in
     only_more a b c all g (only_among b c (refs_in (equation_of e)) all (λ q w. among_all es i e q l f w) h)

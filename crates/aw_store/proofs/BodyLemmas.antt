@@ -10,7 +10,8 @@ use Rattle.aw_store.specs.contracts.equation.BodyPartialEq.TheImpl as bodies
 
 pub body_exact : (a b : Body) → Decides ((bodies.ghosts).eq a b) (a ≡ b)
 body_exact (Same r) (Same s) = Decides-like _ (ap Same) (λ e. cc) (ref_exact r s ((reference.ghosts).eq r s) refl)
-body_exact (Con c p) (Con d q) = Decides-like _ (λ z. λ i. Con (z.0 i) (z.1 i)) (λ e. ((cc), (cc))) (Decides-and _ _ (Decides-eqb c d) (pointwise_decides (λ a b. ref_exact a b ((reference.ghosts).eq a b) refl) p q))
+body_exact (Con c p) (Con d q) = Decides-like _ (λ z. λ i. Con (z.0 i) (z.1 i)) (λ e. ((cc), (cc)))
+    (Decides-and _ _ (Decides-eqb c d) (pointwise_decides (λ a b. ref_exact a b ((reference.ghosts).eq a b) refl) p q))
 body_exact (Num m) (Num n) = Decides-like _ (ap Num) (λ e. cc) (Decides-eqb m n)
 body_exact (Text t) (Text u) = Decides-like _ (ap Text) (λ e. cc) (pointwise_decides Decides-eqb t u)
 body_exact (Same r) (Con d q) = (λ e. cc, λ e. cc)

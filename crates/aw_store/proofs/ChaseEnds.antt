@@ -20,7 +20,8 @@ without-le : (r : Ref) (k : Map) → length (without r k) ≤ length k
 without-le r [] = omega arith
 without-le r (e ∷ k) = le_by (ref_eq r e.left) e k (without r k) (without-le r k)
 
-lt_by : (c : Bool) (r : Ref) (e : Equation) (k l : Map) (b : Body) → length l ≤ length k → (find k r ≡ Some b → length l < length k) → cond c (Some e.body) (find k r) ≡ Some b → length (cond c l (e ∷ l)) < length (e ∷ k)
+lt_by : (c : Bool) (r : Ref) (e : Equation) (k l : Map) (b : Body) → length l ≤ length k → (find k r ≡ Some b → length l < length k) →
+    cond c (Some e.body) (find k r) ≡ Some b → length (cond c l (e ∷ l)) < length (e ∷ k)
 lt_by true r e k l b le lt f = omega (arith, le)
 lt_by false r e k l b le lt f = omega (arith, lt f)
 
@@ -28,7 +29,8 @@ without-lt : (r : Ref) (k : Map) (b : Body) → find k r ≡ Some b → length (
 without-lt r [] b f = absurd cc
 without-lt r (e ∷ k) b f = lt_by (ref_eq r e.left) r e k (without r k) b (without-le r k) (without-lt r k b) f
 
-find_by : (c : Bool) (r s : Ref) (e : Equation) (k l : Map) → ref_eq r e.left ≡ c → ref_eq s r ≡ false → find l s ≡ find k s → find (cond c l (e ∷ l)) s ≡ cond (ref_eq s e.left) (Some e.body) (find k s)
+find_by : (c : Bool) (r s : Ref) (e : Equation) (k l : Map) → ref_eq r e.left ≡ c → ref_eq s r ≡ false → find l s ≡ find k s →
+    find (cond c l (e ∷ l)) s ≡ cond (ref_eq s e.left) (Some e.body) (find k s)
 find_by true r s e k l p away same = same ∙ ap (λ b. cond b (Some e.body) (find k s)) (sym (ap (ref_eq s) (sym (ref_eq-true r e.left p)) ∙ away))
 find_by false r s e k l p away same = ap (cond (ref_eq s e.left) (Some e.body)) same
 
@@ -89,7 +91,8 @@ ends-chase_in k x (follows f d) (suc m) le = ap (chase_on _ _) f ∙ ends-chase_
 pub ends-chase : (k : Map) (x : End) {n : ℕ} {r : Ref} → Ends k x n r → chase k r ≡ as_chased x
 ends-chase k x {n = n} d = ends-chase_in k x d (length k) (within_by n k x d (omega arith))
 
-chase_on-ends : (k : Map) (x : End) (go : Ref → Chased) (r : Ref) (o : Option Body) → find k r ≡ o → ((s : Ref) → go s ≡ as_chased x → (n : ℕ) × Ends k x n s) → chase_on go r o ≡ as_chased x → (n : ℕ) × Ends k x n r
+chase_on-ends : (k : Map) (x : End) (go : Ref → Chased) (r : Ref) (o : Option Body) → find k r ≡ o →
+    ((s : Ref) → go s ≡ as_chased x → (n : ℕ) × Ends k x n s) → chase_on go r o ≡ as_chased x → (n : ℕ) × Ends k x n r
 chase_on-ends k (At_body h rs) go r None f ih e = absurd cc
 chase_on-ends k (At_missing s) go r None f ih e = (0, lacks f cc)
 chase_on-ends k (At_body h rs) go r (Some (Is h' rs')) f ih e = (0, stands f cc)

@@ -61,11 +61,13 @@ chasing_on names k slot i at next c l w =
       rest = λ r f. sym (ap (λ m. chase_in m k c.name) more ∙ ap (chase_on (chase_in (length k - (i + 1)) k) c.name) e) ∙ c.rest r f;
     }
 
-pub chased_missing : (names : List Ref) (k : Map) (slot i at : ℕ) (c : Chasing names k slot i at) → IsLookAt names (find k c.name) look.Missing → (r : Ref) → slice_get names slot ≡ Some r → IsChasedTo k names slot (chase k r) (answer.Missing at)
+pub chased_missing : (names : List Ref) (k : Map) (slot i at : ℕ) (c : Chasing names k slot i at) → IsLookAt names (find k c.name) look.Missing →
+    (r : Ref) → slice_get names slot ≡ Some r → IsChasedTo k names slot (chase k r) (answer.Missing at)
 chased_missing names k slot i at c w r f =
     subst (λ x. IsChasedTo k names slot x (answer.Missing at)) (sym (chase_in-none _ k c.name (seen_missing names _ w)) ∙ c.rest r f) c.named
 
-pub chased_found : (names : List Ref) (k : Map) (slot i at : ℕ) (c : Chasing names k slot i at) → IsLookAt names (find k c.name) look.Found → (r : Ref) → slice_get names slot ≡ Some r → IsChasedTo k names slot (chase k r) (answer.Found at)
+pub chased_found : (names : List Ref) (k : Map) (slot i at : ℕ) (c : Chasing names k slot i at) → IsLookAt names (find k c.name) look.Found →
+    (r : Ref) → slice_get names slot ≡ Some r → IsChasedTo k names slot (chase k r) (answer.Found at)
 chased_found names k slot i at c w r f =
     let (h, parts, e) = seen_found names (find k c.name) w in
     subst (λ x. IsChasedTo k names slot x (answer.Found at)) (sym (chase_in-is _ k c.name h parts e) ∙ c.rest r f) (c.name, c.named, e)

@@ -147,5 +147,6 @@ pub only_both : (a b c : List Ref) (e : Equation) → NamesOnly a b (refs_in e) 
 only_both a b c e f g = only_more a b c (refs_in e) f (only_among b c (mentions e.body) (refs_in e) (λ q w. or_right (ref_eq q e.left) _ w) g)
 
 -- a step of a loop over references
-pub only_at : {T E : Type 0} (o : Result T E) (a b c rs : List Ref) (i : ℕ) (r : Ref) → i < length rs → r ≡ get_or rs i r → NamesOnly a b rs → OnOk o (c ≡ with_name b r) → OnErr o (c ≡ b) → NamesOnly a c rs
+pub only_at : {T E : Type 0} (o : Result T E) (a b c rs : List Ref) (i : ℕ) (r : Ref) → i < length rs → r ≡ get_or rs i r → NamesOnly a b rs →
+    OnOk o (c ≡ with_name b r) → OnErr o (c ≡ b) → NamesOnly a c rs
 only_at o a b c rs i r l e f k w = only_more a b c rs f (only_named o b c rs r (is_named-at rs i r (slice_get_read rs (length rs) i r refl l e)) k w)

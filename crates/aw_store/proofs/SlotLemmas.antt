@@ -73,7 +73,8 @@ parts_more ps refs k r e f =
     ∙ ap (λ x. take k ps ++ x ∷ []) (sym (get_or_from_slice_get ps k r r f))
     ∙ sym (take_more ps k r (slice_get_within ps k r f))
 
-pub slots_more : (ns ms : List Ref) (slots new : List ℕ) (rs : List Ref) (i s : ℕ) (r : Ref) → Grows ns ms → AreNamed ns slots (take i rs) → slice_get ms s ≡ Some r → new ≡ slots ++ s ∷ [] → i < length rs → r ≡ get_or rs i r → AreNamed ms new (take (i + 1) rs)
+pub slots_more : (ns ms : List Ref) (slots new : List ℕ) (rs : List Ref) (i s : ℕ) (r : Ref) → Grows ns ms → AreNamed ns slots (take i rs) →
+    slice_get ms s ≡ Some r → new ≡ slots ++ s ∷ [] → i < length rs → r ≡ get_or rs i r → AreNamed ms new (take (i + 1) rs)
 slots_more ns ms slots new rs i s r g e f n l o =
     ap (names_at ms) n
     ∙ named_push ms slots (take i rs) s r (AreNamed-grown ns ms slots (take i rs) g e) f

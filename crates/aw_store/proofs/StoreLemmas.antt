@@ -16,7 +16,8 @@ use Rattle.aw_store.specs.declared.equation.Body.{Body}
 use Rattle.aw_store.specs.declared.equation.Equation.{Equation}
 
 -- the body of a name, and of its slot
-pub at_slot : (es s : List Equation) (names : List Ref) (slot : ℕ) (n : Ref) (o : Option Body) → s ≡ es → n ≡ get_or names slot n → slot < length names → option_map body_of o ≡ find (map equation_of s) n → body_at (map equation_of es) names slot ≡ option_map body_of o
+pub at_slot : (es s : List Equation) (names : List Ref) (slot : ℕ) (n : Ref) (o : Option Body) → s ≡ es → n ≡ get_or names slot n →
+    slot < length names → option_map body_of o ≡ find (map equation_of s) n → body_at (map equation_of es) names slot ≡ option_map body_of o
 at_slot es s names slot n o e f l w =
     ap (option_and_then (find (map equation_of es))) (slice_get-get_or names slot n l ∙ ap Some (sym f))
     ∙ sym (w ∙ ap (λ x. find (map equation_of x) n) e)
@@ -29,7 +30,8 @@ live_slot k names slot n l = by_name (slice_get names slot) refl l
     by_name None e l = absurd (omega (arith, l))
     by_name (Some r) e l = slice_get_within names slot r e
 
-found_names : (b : Bool) (names : List Ref) (e : P.Equation) (k : Map) (r : Ref) (x : P.Body) → cond b (Some e.body) (find k r) ≡ Some x → has_names_of names e ≡ true → (find k r ≡ Some x → all_named names (mentions x) ≡ true) → all_named names (mentions x) ≡ true
+found_names : (b : Bool) (names : List Ref) (e : P.Equation) (k : Map) (r : Ref) (x : P.Body) → cond b (Some e.body) (find k r) ≡ Some x →
+    has_names_of names e ≡ true → (find k r ≡ Some x → all_named names (mentions x) ≡ true) → all_named names (mentions x) ≡ true
 found_names true names e k r x f w go = let p : e.body ≡ x = cc in ap (λ y. all_named names (mentions y)) (sym p) ∙ (and_parts (is_named names e.left) _ w).1
 found_names false names e k r x f w go = go f
 
@@ -39,7 +41,8 @@ find-named names (e ∷ k) r x w f =
     let (a, b) = and_parts (has_names_of names e) _ w in
     found_names (ref_eq r e.left) names e k r x f a (find-named names k r x b)
 
-found_few : (b : Bool) (e : P.Equation) (k : Map) (r : Ref) (x : P.Body) → cond b (Some e.body) (find k r) ≡ Some x → has_few e ≡ true → (find k r ≡ Some x → nat_le (length (mentions x)) most_parts ≡ true) → nat_le (length (mentions x)) most_parts ≡ true
+found_few : (b : Bool) (e : P.Equation) (k : Map) (r : Ref) (x : P.Body) → cond b (Some e.body) (find k r) ≡ Some x → has_few e ≡ true →
+    (find k r ≡ Some x → nat_le (length (mentions x)) most_parts ≡ true) → nat_le (length (mentions x)) most_parts ≡ true
 found_few true e k r x f w go = let p : e.body ≡ x = cc in ap (λ y. nat_le (length (mentions y)) most_parts) (sym p) ∙ w
 found_few false e k r x f w go = go f
 

@@ -143,7 +143,9 @@ module _ {A B : Type 0} (at : A → Node) (f : B → A) where
       ap not (node_order.chain n (node (get_or xs j d)) (node (get_or xs i d)) (not-true _ h) (shown_far xs up i j d le l))
 
   -- a record goes between those that it is not before and those that it is before
-  pub inserted_at : (xs : List B) (n : Node) (i : ℕ) → i ≤ length xs → AllWithin (λ x. not (node_lt n (at (f x))) ≡ true) xs 0 i → AllWithin (λ x. not (node_lt n (at (f x))) ≡ false) xs i (length xs) → (r : A) → at r ≡ n → insert_by at r (map f xs) ≡ map f (take i xs) ++ r ∷ map f (drop i xs)
+  pub inserted_at : (xs : List B) (n : Node) (i : ℕ) → i ≤ length xs → AllWithin (λ x. not (node_lt n (at (f x))) ≡ true) xs 0 i →
+      AllWithin (λ x. not (node_lt n (at (f x))) ≡ false) xs i (length xs) → (r : A) → at r ≡ n → insert_by at r (map f xs) ≡ map f
+      (take i xs) ++ r ∷ map f (drop i xs)
   inserted_at [] n zero le low high r e = refl
   inserted_at [] n (suc i) le low high r e = refl
   inserted_at (x ∷ xs) n zero le low high r e =
@@ -153,7 +155,8 @@ module _ {A B : Type 0} (at : A → Node) (f : B → A) where
       ∙ ap (λ ys. f x ∷ ys) (inserted_at xs n i (omega (arith, le)) (λ k d a b. low (suc k) d (omega arith) (omega (arith, b))) (λ k d a b. high (suc k) d (omega (arith, a)) (omega (arith, b))) r e)
 
   -- the record behind those that are before the node, where it is the node's
-  pub found_here : (xs : List B) (n : Node) (i : ℕ) (here : B) → AllWithin (λ x. node_lt (at (f x)) n ≡ true) xs 0 i → slice_get xs i ≡ Some here → node_eq n (at (f here)) ≡ true → find_by at n (map f xs) ≡ Some (f here)
+  pub found_here : (xs : List B) (n : Node) (i : ℕ) (here : B) → AllWithin (λ x. node_lt (at (f x)) n ≡ true) xs 0 i → slice_get xs i ≡ Some here →
+      node_eq n (at (f here)) ≡ true → find_by at n (map f xs) ≡ Some (f here)
   found_here [] n i here low is e = absurd cc
   found_here (x ∷ xs) n zero here low is e =
       let same : x ≡ here = cc in
@@ -169,7 +172,9 @@ module _ {A B : Type 0} (at : A → Node) (f : B → A) where
       ap (λ b. cond b (Some (f x)) (find_by at n (map f xs))) (other_after n (node x) (high 0 x (omega arith)))
       ∙ none_after xs n (λ k d l. high (suc k) d (omega (arith, l)))
 
-  gone : (xs : List B) (n : Node) (i : ℕ) → Far xs → AllWithin (λ x. node_lt (at (f x)) n ≡ true) xs 0 i → AllWithin (λ x. node_lt (at (f x)) n ≡ false) xs i (length xs) → ((here : B) → slice_get xs i ≡ Some here → node_eq n (at (f here)) ≡ false) → find_by at n (map f xs) ≡ None
+  gone : (xs : List B) (n : Node) (i : ℕ) → Far xs → AllWithin (λ x. node_lt (at (f x)) n ≡ true) xs 0 i →
+      AllWithin (λ x. node_lt (at (f x)) n ≡ false) xs i (length xs) → ((here : B) → slice_get xs i ≡ Some here → node_eq n (at (f here)) ≡ false) →
+      find_by at n (map f xs) ≡ None
   gone [] n i up low high here = refl
   gone (x ∷ xs) n zero up low high here =
       let differ = here x refl in
@@ -178,10 +183,13 @@ module _ {A B : Type 0} (at : A → Node) (f : B → A) where
       ∙ none_after xs n (λ k d l. after_cases n (node x) (node (get_or xs k d)) _ refl first (up 0 (suc k) d (omega arith) (omega (arith, l))))
   gone (x ∷ xs) n (suc i) up low high here =
       ap (λ b. cond b (Some (f x)) (find_by at n (map f xs))) (other_before n (node x) (low 0 x (omega arith) (omega arith)))
-      ∙ gone xs n i (λ a b d le l. up (suc a) (suc b) d (omega (arith, le)) (omega (arith, l))) (λ k d a b. low (suc k) d (omega arith) (omega (arith, b))) (λ k d a b. high (suc k) d (omega (arith, a)) (omega (arith, b))) here
+      ∙ gone xs n i (λ a b d le l. up (suc a) (suc b) d (omega (arith, le)) (omega (arith, l)))
+      (λ k d a b. low (suc k) d (omega arith) (omega (arith, b))) (λ k d a b. high (suc k) d (omega (arith, a)) (omega (arith, b))) here
 
   -- no record of the node, where the record behind those that are before it is another's
-  pub found_nowhere : (xs : List B) (n : Node) (i : ℕ) → IsOrderedBy at (map f xs) → AllWithin (λ x. node_lt (at (f x)) n ≡ true) xs 0 i → AllWithin (λ x. node_lt (at (f x)) n ≡ false) xs i (length xs) → ((here : B) → slice_get xs i ≡ Some here → node_eq n (at (f here)) ≡ false) → find_by at n (map f xs) ≡ None
+  pub found_nowhere : (xs : List B) (n : Node) (i : ℕ) → IsOrderedBy at (map f xs) → AllWithin (λ x. node_lt (at (f x)) n ≡ true) xs 0 i →
+      AllWithin (λ x. node_lt (at (f x)) n ≡ false) xs i (length xs) → ((here : B) → slice_get xs i ≡ Some here → node_eq n (at (f here)) ≡ false) →
+      find_by at n (map f xs) ≡ None
   found_nowhere xs n i up low high here = gone xs n i (shown_far xs up) low high here
 
   pub other_here : (xs : List B) (n : Node) (i : ℕ) (here other : B) → slice_get xs i ≡ Some here → slice_get xs i ≡ Some other → node_eq n (at (f other)) ≡ false → node_eq n (at (f here)) ≡ false

@@ -25,7 +25,8 @@ step_names g s step t e =
     ap (λ o. unwrap_or (option_and_then child o) 0) here ∙ ap (λ o. unwrap_or o 0) (where_true (nat_eq r.sort s) (child r) t f)
 
 -- where there is a step, the sort before the first does not matter
-any_start : (g : Grammar) (s t : ℕ) (step : Step) (steps : List Step) → unwrap_or (option_map (sort_of_child g) (last_step (step ∷ steps))) s ≡ unwrap_or (option_map (sort_of_child g) (last_step (step ∷ steps))) t
+any_start : (g : Grammar) (s t : ℕ) (step : Step) (steps : List Step) → unwrap_or (option_map (sort_of_child g) (last_step (step ∷ steps)))
+    s ≡ unwrap_or (option_map (sort_of_child g) (last_step (step ∷ steps))) t
 any_start g s t step [] = refl
 any_start g s t step (next ∷ steps) = any_start g s t next steps
 

@@ -43,8 +43,19 @@ slot-trans (Part i) (Result j) c e f = absurd cc
 slot-trans (Part i) (Part j) (Result k) e f = absurd cc
 
 pub slot-tri : (a b : Slot) → (slot_lt a b ≡ true) ⊎ ((a ≡ b) ⊎ (slot_lt b a ≡ true))
-slot-tri (Result i) (Result j) = elim (cases_lt i j) [ inl x ↦ inl (lt-ltb i j x) | inr x ↦ elim (cases_lt j i) [ inl y ↦ inr (inr (lt-ltb j i y)) | inr y ↦ (let e : i ≡ j = omega arith in inr (inl (ap Result e))) ] ]
-slot-tri (Part i) (Part j) = elim (cases_lt i j) [ inl x ↦ inl (lt-ltb i j x) | inr x ↦ elim (cases_lt j i) [ inl y ↦ inr (inr (lt-ltb j i y)) | inr y ↦ (let e : i ≡ j = omega arith in inr (inl (ap Part e))) ] ]
+slot-tri (Result i) (Result j) = elim (cases_lt i j) [
+  | inl x ↦ inl (lt-ltb i j x)
+  | inr x ↦ elim (cases_lt j i)
+      [ inl y ↦ inr (inr (lt-ltb j i y)) | inr y ↦ (let e : i ≡ j = omega arith in inr (inl (ap Result e))) ]
+]
+slot-tri (Part i) (Part j) = elim (cases_lt i j) [
+  | inl x ↦ inl (lt-ltb i j x)
+  | inr x ↦ elim (cases_lt j i) [
+    | inl y ↦ inr (inr (lt-ltb j i y))
+    | inr
+        y ↦ (let e : i ≡ j = omega arith in inr (inl (ap Part e)))
+  ]
+]
 slot-tri (Result i) (Part j) = inl refl
 slot-tri (Part i) (Result j) = inr (inr refl)
 

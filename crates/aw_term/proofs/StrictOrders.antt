@@ -31,7 +31,8 @@ module _ {A : Type 0} (lt : A → A → Bool) (order : IsStrictWeakOrder lt) whe
       cases false true e f = inr (inr f)
       cases false false e f = inr (inl (tied a b e f))
 
-module _ {A : Type 0} (lt : A → A → Bool) (no : (a : A) → lt a a ≡ true → Never) (trans : (a b c : A) → lt a b ≡ true → lt b c ≡ true → lt a c ≡ true) (tri : (a b : A) → (lt a b ≡ true) ⊎ ((a ≡ b) ⊎ (lt b a ≡ true))) where
+module _ {A : Type 0} (lt : A → A → Bool) (no : (a : A) → lt a a ≡ true → Never) (trans : (a b c : A) → lt a b ≡ true → lt b c ≡ true → lt a c ≡ true)
+    (tri : (a b : A) → (lt a b ≡ true) ⊎ ((a ≡ b) ⊎ (lt b a ≡ true))) where
   pub tied_by : (a b : A) → lt a b ≡ false → lt b a ≡ false → a ≡ b
   tied_by a b e f = elim (tri a b) [
     | inl l ↦ absurd cc

@@ -1,12 +1,14 @@
 -- Tokens at the front of bytes: names, numbers, texts and marks.
-use Rattle.std.proofs.Common.{◌≡◌, ℕ, suc, ◌+◌, ◌-◌, ◌<◌, ◌^◌, refl, sym, ◌∙◌, ap, Bool, true, false, cond, ◌==◌, ◌&&◌, not, List, [], ◌∷◌, ◌++◌, take, length, arith, Option, Some, None, is_some, option_map, append_assoc, length-append, nat_le, flat_map, subst, inl, inr}
+use Rattle.std.proofs.Common.{◌≡◌, ℕ, suc, ◌+◌, ◌-◌, ◌<◌, ◌^◌, refl, sym, ◌∙◌, ap, Bool, true, false, cond, ◌==◌, ◌&&◌, not, List, [], ◌∷◌, ◌++◌, take}
+use Rattle.std.proofs.Common.{length, arith, Option, Some, None, is_some, option_map, append_assoc, length-append, nat_le, flat_map, subst, inl, inr}
 use Rattle.std.proofs.Math.Seq.{take-append_seam}
 use Rattle.std.proofs.lemmas.Bool.{and_parts}
 use Rattle.std.proofs.lemmas.Bool.Decides.{nat_tests, eqb_tells}
 use Rattle.std.proofs.lemmas.List.Folds.{list_all-append}
 use Rattle.std.specs.List.{list_all}
 use Rattle.std.specs.Fmt.{decimal}
-use Rattle.aw_spelling.specs.Spelling.{is_letter, is_digit, is_name, is_name_byte, is_content, is_content_byte, is_numeral, if_word, value_after, number_of, node_name, quoted, spelled, text_behind_quote}
+use Rattle.aw_spelling.specs.Spelling.{is_letter, is_digit, is_name, is_name_byte, is_content, is_content_byte, is_numeral, if_word, value_after}
+use Rattle.aw_spelling.specs.Spelling.{number_of, node_name, quoted, spelled, text_behind_quote}
 use Rattle.aw_spelling.proofs.NodeNames.{lacks}
 use Rattle.aw_spelling.proofs.Numbers.{decimal_digits, numeral_digits}
 use Rattle.aw_spelling.proofs.Quotes.{text_again}
@@ -164,5 +166,6 @@ text_unbroken t h =
 
 pub mark_front : (m : ℕ) (bs : List ℕ) → is_blank m ≡ false → is_mark m ≡ true → front_of (m ∷ bs) ≡ front.Token (kinds.Mark m) 1
 mark_front m bs h k =
-    let rest = cond (m == 34) (front_of_text bs (option_map (λ x. x.1) (text_behind_quote bs))) (cond (is_word_byte m) (front_of_word (word_len (m ∷ bs)) (kind_of_word (take (word_len (m ∷ bs)) (m ∷ bs)))) front.Bad) in
+    let rest = cond (m == 34) (front_of_text bs (option_map (λ x. x.1) (text_behind_quote bs)))
+    (cond (is_word_byte m) (front_of_word (word_len (m ∷ bs)) (kind_of_word (take (word_len (m ∷ bs)) (m ∷ bs)))) front.Bad) in
     ap (λ t. cond t front.Blank (cond (is_mark m) (front.Token (kinds.Mark m) 1) rest)) h ∙ ap (λ t. cond t (front.Token (kinds.Mark m) 1) rest) k

@@ -1,5 +1,6 @@
 -- A node name at the front of bytes: all its bytes are bytes of a word, the first is a letter, and one of them stands in no name.
-use Rattle.std.proofs.Common.{◌≡◌, ℕ, ◌<◌, ◌-◌, refl, sym, ◌∙◌, ap, Bool, true, false, cond, ◌==◌, ◌&&◌, List, [], ◌∷◌, ◌++◌, length, arith, Option, Some, None, IfSome, is_some, option_map, option_and_then, nat_le, subst, inl, inr}
+use Rattle.std.proofs.Common.{◌≡◌, ℕ, ◌<◌, ◌-◌, refl, sym, ◌∙◌, ap, Bool, true, false, cond, ◌==◌, ◌&&◌, List, [], ◌∷◌, ◌++◌, length, arith, Option}
+use Rattle.std.proofs.Common.{Some, None, IfSome, is_some, option_map, option_and_then, nat_le, subst, inl, inr}
 use Rattle.std.proofs.lemmas.Bool.{and_parts}
 use Rattle.std.proofs.lemmas.Bool.Decides.{nat_tests, eqb_tells}
 use Rattle.std.proofs.lemmas.List.Folds.{list_all-append}
@@ -67,17 +68,21 @@ start_word : (part : List ℕ) → is_some (start_of part) ≡ true → list_all
 start_word part h = by_halves (cut 35 part) (cut_passes is_word_byte 35 part refl) h
   where
     by_halves : (o : Option (List ℕ × List ℕ)) → IfSome o (PassWith is_word_byte part)
-        → is_some (option_and_then (λ halves. cond (is_name halves.0) (option_map (λ n. let x : List ℕ × ℕ = (halves.0, n) in x) (number_of halves.1)) None) o) ≡ true → list_all is_word_byte part ≡ true
+        → is_some (option_and_then (λ halves. cond (is_name halves.0) (option_map (λ n. let x : List ℕ × ℕ = (halves.0, n) in x) (number_of halves.1))
+        None) o) ≡ true → list_all is_word_byte part ≡ true
     by_halves None f e = cc
-    by_halves (Some halves) f e = let both = tested (λ n. let x : List ℕ × ℕ = (halves.0, n) in x) (is_name halves.0) (number_of halves.1) e in f (name_word halves.0 both.0) (number_word halves.1 both.1)
+    by_halves (Some halves) f e = let both = tested (λ n. let x : List ℕ × ℕ = (halves.0, n) in x) (is_name halves.0) (number_of halves.1) e in
+        f (name_word halves.0 both.0) (number_word halves.1 both.1)
 
 step_word : (part : List ℕ) → is_some (step_of part) ≡ true → list_all is_word_byte part ≡ true
 step_word part h = by_halves (cut 46 part) (cut_passes is_word_byte 46 part refl) h
   where
     by_halves : (o : Option (List ℕ × List ℕ)) → IfSome o (PassWith is_word_byte part)
-        → is_some (option_and_then (λ halves. cond (is_name halves.0) (option_map (λ n. let x : List ℕ × ℕ = (halves.0, n) in x) (child_of halves.1)) None) o) ≡ true → list_all is_word_byte part ≡ true
+        → is_some (option_and_then (λ halves. cond (is_name halves.0) (option_map (λ n. let x : List ℕ × ℕ = (halves.0, n) in x) (child_of halves.1))
+        None) o) ≡ true → list_all is_word_byte part ≡ true
     by_halves None f e = cc
-    by_halves (Some halves) f e = let both = tested (λ n. let x : List ℕ × ℕ = (halves.0, n) in x) (is_name halves.0) (child_of halves.1) e in f (name_word halves.0 both.0) (child_word halves.1 both.1)
+    by_halves (Some halves) f e = let both = tested (λ n. let x : List ℕ × ℕ = (halves.0, n) in x) (is_name halves.0) (child_of halves.1) e in
+        f (name_word halves.0 both.0) (child_word halves.1 both.1)
 
 -- all parts, and so the bytes that they are parts of
 steps_word : (ps : List (List ℕ)) → is_some (steps_of ps) ≡ true → list_all (list_all is_word_byte) ps ≡ true
@@ -108,7 +113,8 @@ start_begins : (b : ℕ) (bs : List ℕ) → is_some (start_of (b ∷ bs)) ≡ t
 start_begins b bs h = by_test (b == 35) (cut 35 bs) h
   where
     by_test : (t : Bool) (o : Option (List ℕ × List ℕ))
-        → is_some (option_and_then (λ halves. cond (is_name halves.0) (option_map (λ n. let x : List ℕ × ℕ = (halves.0, n) in x) (number_of halves.1)) None) (cond t (Some ([], bs)) (option_map (with_front b) o))) ≡ true
+        → is_some (option_and_then (λ halves. cond (is_name halves.0) (option_map (λ n. let x : List ℕ × ℕ = (halves.0, n) in x) (number_of halves.1))
+        None) (cond t (Some ([], bs)) (option_map (with_front b) o))) ≡ true
         → is_letter b ≡ true
     by_test true o e = cc
     by_test false None e = cc

@@ -4,7 +4,8 @@ use Rattle.std.proofs.lemmas.Bool.{ne_eqb, eq-eqb}
 use Rattle.aw_term.specs.Trees as P
 use Rattle.aw_grammar.specs.Written.{Written, Word, Apply, Literal, Writtens, Empty, Then, side_by_side}
 use Rattle.aw_term_reader.specs.Lexemes.{Lexeme, Name, Number, Node, Quoted, Mark}
-use Rattle.aw_term_reader.specs.Terms.{Expected, TermOrEnd, TermOnly, CommaOrEnd, BehindName, Opened, Reading, On, AtEnd, Misplaced, spelling, spellings, spellings_behind, closed, at_comma, go_on, read_terms, terms_up_to}
+use Rattle.aw_term_reader.specs.Terms.{Expected, TermOrEnd, TermOnly, CommaOrEnd, BehindName, Opened, Reading, On, AtEnd, Misplaced, spelling}
+use Rattle.aw_term_reader.specs.Terms.{spellings, spellings_behind, closed, at_comma, go_on, read_terms, terms_up_to}
 use Rattle.aw_term_reader.specs.Laws.{IsWritten, AreWritten}
 
 -- what may follow a term: a mark, but not `(`
@@ -28,7 +29,8 @@ follow : (close : ℕ) (os : List Opened) (terms : List Written) (name : List �
     read_terms close (state os terms (BehindName name)) ls ≡ read_terms close (state os (terms ++ Word name ∷ []) CommaOrEnd) ls
 follow close os terms name [] f = elim f [ ]
 follow close os terms name (Mark m ∷ ls) f =
-    ap (λ b. go_on (cond b (On (state (record { name = name; before = terms } ∷ os) [] TermOrEnd)) (at_comma close (state os (terms ++ Word name ∷ []) CommaOrEnd) (Mark m))) (λ s. read_terms close s ls) ls) (ne_eqb m 40 f)
+    ap (λ b. go_on (cond b (On (state (record { name = name; before = terms } ∷ os) [] TermOrEnd))
+    (at_comma close (state os (terms ++ Word name ∷ []) CommaOrEnd) (Mark m))) (λ s. read_terms close s ls) ls) (ne_eqb m 40 f)
 follow close os terms name (Name n ∷ ls) f = elim f [ ]
 follow close os terms name (Number n ∷ ls) f = elim f [ ]
 follow close os terms name (Node n ∷ ls) f = elim f [ ]
@@ -61,7 +63,8 @@ listed-side_by_side (t ∷ ts) = ap (λ us. t ∷ us) (listed-side_by_side ts)
 applied : (close : ℕ) (name : List ℕ) (parts : Writtens) (os : List Opened) (terms : List Written) (ls : List Lexeme) →
     read_terms close (state (record { name = name; before = terms } ∷ os) [] TermOrEnd) (spellings parts ++ Mark 41 ∷ ls)
     ≡ go_on (closed close (record { name = name; before = terms } ∷ os) (listed parts) 41) (λ s. read_terms close s ls) ls →
-    read_terms close (state (record { name = name; before = terms } ∷ os) [] TermOrEnd) ((spellings parts ++ Mark 41 ∷ []) ++ ls) ≡ read_terms close (state os (terms ++ Apply name parts ∷ []) CommaOrEnd) ls
+    read_terms close (state (record { name = name; before = terms } ∷ os) [] TermOrEnd) ((spellings parts ++ Mark 41 ∷ []) ++ ls) ≡ read_terms close
+    (state os (terms ++ Apply name parts ∷ []) CommaOrEnd) ls
 applied close name parts os terms ls h =
     ap (read_terms close (state (record { name = name; before = terms } ∷ os) [] TermOrEnd)) (append_assoc (spellings parts) (Mark 41 ∷ []) ls)
     ∙ h

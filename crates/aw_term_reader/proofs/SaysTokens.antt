@@ -1,5 +1,6 @@
 -- Bytes that say lexemes, wherever in a line they stand; and where they hold no line feed.
-use Rattle.std.proofs.Common.{◌≡◌, ℕ, ◌+◌, ◌-◌, ◌<◌, ◌^◌, refl, sym, ◌∙◌, ap, subst, true, false, ◌==◌, ◌&&◌, not, List, [], ◌∷◌, ◌++◌, take, drop, length, arith, unwrap_or, Ok, Some, is_some, append_assoc, append-nil, length-append}
+use Rattle.std.proofs.Common.{◌≡◌, ℕ, ◌+◌, ◌-◌, ◌<◌, ◌^◌, refl, sym, ◌∙◌, ap, subst, true, false, ◌==◌, ◌&&◌, not, List, [], ◌∷◌, ◌++◌, take, drop}
+use Rattle.std.proofs.Common.{length, arith, unwrap_or, Ok, Some, is_some, append_assoc, append-nil, length-append}
 use Rattle.std.proofs.Math.Seq.{take-append_seam, drop-append_seam}
 use Rattle.std.proofs.lemmas.List.Folds.{list_all-append}
 use Rattle.std.specs.Fmt.{decimal}
@@ -49,7 +50,8 @@ slice_front before w bs =
     let size : (length before + length w) - length before ≡ length w = omega arith in
     ap (λ xs. take ((length before + length w) - length before) xs) (drop-append_seam before (w ++ bs)) ∙ ap (λ n. take n (w ++ bs)) size ∙ take-append_seam w bs
 
-lexes_token : (w bs : List ℕ) (kind : TokenKind) (l : Lexeme) (ls : List Lexeme) → 0 < length w → front_of (w ++ bs) ≡ front.Token kind (length w) → said kind w ≡ l → Lexes bs ls → Lexes (w ++ bs) (l ∷ ls)
+lexes_token : (w bs : List ℕ) (kind : TokenKind) (l : Lexeme) (ls : List Lexeme) → 0 < length w → front_of (w ++ bs) ≡ front.Token kind (length w) →
+    said kind w ≡ l → Lexes bs ls → Lexes (w ++ bs) (l ∷ ls)
 lexes_token w bs kind l ls some found says s before =
     let token : Token = record { kind = kind; start = length before; end = length before + length w } in
     let more = s (before ++ w) in
@@ -67,7 +69,8 @@ lexes_token w bs kind l ls some found says s before =
 pub all_unbroken : (w bs : List ℕ) → lacks 10 w ≡ true → lacks 10 bs ≡ true → lacks 10 (w ++ bs) ≡ true
 all_unbroken w bs h k = list_all-append (λ x. not (x == 10)) w bs ∙ ap (λ t. t && lacks 10 bs) h ∙ k
 
-says_token : (w bs : List ℕ) (kind : TokenKind) (l : Lexeme) (ls : List Lexeme) → 0 < length w → front_of (w ++ bs) ≡ front.Token kind (length w) → said kind w ≡ l → lacks 10 w ≡ true → Says bs ls → Says (w ++ bs) (l ∷ ls)
+says_token : (w bs : List ℕ) (kind : TokenKind) (l : Lexeme) (ls : List Lexeme) → 0 < length w → front_of (w ++ bs) ≡ front.Token kind (length w) →
+    said kind w ≡ l → lacks 10 w ≡ true → Says bs ls → Says (w ++ bs) (l ∷ ls)
 says_token w bs kind l ls some found says whole s = record {
   lexed = lexes_token w bs kind l ls some found says s.lexed;
   unbroken = all_unbroken w bs whole s.unbroken;

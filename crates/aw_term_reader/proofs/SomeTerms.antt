@@ -3,7 +3,8 @@ use Rattle.std.proofs.Common.{◌≡◌, ℕ, true, false, cond, List, [], ◌�
 use Rattle.aw_term.specs.Trees as P
 use Rattle.aw_grammar.specs.Written.{Written, Word, Apply, Literal, side_by_side}
 use Rattle.aw_term_reader.specs.Lexemes.{Lexeme, Name, Number, Node, Quoted, Mark}
-use Rattle.aw_term_reader.specs.Terms.{Expected, TermOrEnd, TermOnly, CommaOrEnd, BehindName, Opened, Reading, Read, On, AtEnd, Misplaced, with_term, with_opened, closed, at_term, at_comma, at_start, behind_name, read_one, go_on, read_terms, nothing_read}
+use Rattle.aw_term_reader.specs.Terms.{Expected, TermOrEnd, TermOnly, CommaOrEnd, BehindName, Opened, Reading, Read, On, AtEnd, Misplaced, with_term}
+use Rattle.aw_term_reader.specs.Terms.{with_opened, closed, at_term, at_comma, at_start, behind_name, read_one, go_on, read_terms, nothing_read}
 
 abbrev pub IsNonempty : List Written → Type 0
 IsNonempty [] = P.Never
@@ -55,7 +56,8 @@ term_step r (Mark m) = tt
 
 comma_step : (close : ℕ) (r : Reading) (l : Lexeme) → IsStarted r.opened r.terms CommaOrEnd → Comes (at_comma close r l)
 comma_step close r (Mark m) s =
-    elim (nat_eq m 44) as (λ b. Comes (cond b (On (record r { expected = TermOnly })) (closed close r.opened r.terms m))) [ true ↦ only_started r.opened r.terms | false ↦ closes close r.opened r.terms m s ]
+    elim (nat_eq m 44) as (λ b. Comes (cond b (On (record r { expected = TermOnly })) (closed close r.opened r.terms m)))
+    [ true ↦ only_started r.opened r.terms | false ↦ closes close r.opened r.terms m s ]
 comma_step close r (Name n) s = tt
 comma_step close r (Number n) s = tt
 comma_step close r (Quoted t) s = tt

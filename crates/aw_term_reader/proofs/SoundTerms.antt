@@ -13,7 +13,8 @@ use Rattle.aw_grammar.specs.Written.{Written, Word, Apply, Literal, side_by_side
 use Rattle.aw_grammar.specs.Terms.{has_contents, parts_have_contents, all_have_contents}
 use Rattle.aw_grammar.proofs.Contents.{contents_append}
 use Rattle.aw_term_reader.specs.Lexemes.{Lexeme, Name, Number, Node, Quoted, Mark, said, slice, lexemes}
-use Rattle.aw_term_reader.specs.Terms.{Expected, TermOrEnd, TermOnly, CommaOrEnd, BehindName, Opened, Reading, Read, On, AtEnd, Misplaced, with_term, with_opened, closed, at_term, at_comma, at_start, behind_name, read_one, go_on, read_terms, nothing_read}
+use Rattle.aw_term_reader.specs.Terms.{Expected, TermOrEnd, TermOnly, CommaOrEnd, BehindName, Opened, Reading, Read, On, AtEnd, Misplaced, with_term}
+use Rattle.aw_term_reader.specs.Terms.{with_opened, closed, at_term, at_comma, at_start, behind_name, read_one, go_on, read_terms, nothing_read}
 use Rattle.aw_term_reader.specs.Sound.{IsSound, IsSoundBehind}
 
 content_or_empty : (o : Option (List ℕ)) → IfSome o (λ c. is_content c ≡ true) → is_content (unwrap_or o []) ≡ true
@@ -67,7 +68,8 @@ term_step r (Mark m) s fine = tt
 
 comma_step : (close : ℕ) (r : Reading) (l : Lexeme) → IsFine r → ReadsFine (at_comma close r l)
 comma_step close r (Mark m) fine =
-    elim (nat_eq m 44) as (λ b. ReadsFine (cond b (On (record r { expected = TermOnly })) (closed close r.opened r.terms m))) [ true ↦ (fine.0, (fine.1.0, tt)) | false ↦ closes close r.opened r.terms m fine.0 fine.1.0 ]
+    elim (nat_eq m 44) as (λ b. ReadsFine (cond b (On (record r { expected = TermOnly })) (closed close r.opened r.terms m)))
+    [ true ↦ (fine.0, (fine.1.0, tt)) | false ↦ closes close r.opened r.terms m fine.0 fine.1.0 ]
 comma_step close r (Name n) fine = tt
 comma_step close r (Number n) fine = tt
 comma_step close r (Quoted t) fine = tt
@@ -110,5 +112,6 @@ fine_terms close [] r ts rest s fine e = cc
 fine_terms close (l ∷ ls) r ts rest s fine e =
     from_step (read_one close r r.expected l) ls (λ next. read_terms close next ls) ts rest (one_step close r r.expected l fine.1.1 s.0 fine) (λ next f h. fine_terms close ls next ts rest s.1 f h) e
 
-pub texts_are_contents : (close : ℕ) (expected : Expected) (ls : List Lexeme) (ts : List Written) (rest : List Lexeme) → IsSoundBehind expected → Each IsSound ls → read_terms close (nothing_read expected) ls ≡ Some (ts, rest) → all_have_contents ts ≡ true
+pub texts_are_contents : (close : ℕ) (expected : Expected) (ls : List Lexeme) (ts : List Written) (rest : List Lexeme) → IsSoundBehind expected →
+    Each IsSound ls → read_terms close (nothing_read expected) ls ≡ Some (ts, rest) → all_have_contents ts ≡ true
 texts_are_contents close expected ls ts rest b s e = fine_terms close ls (nothing_read expected) ts rest s (tt, (refl, b)) e

@@ -5,7 +5,9 @@ use Rattle.std.proofs.lemmas.Bool.{eqb-true}
 use Rattle.aw_term.specs.Trees as P
 use Rattle.aw_grammar.specs.Written.{Written, Word, Apply, Literal, side_by_side}
 use Rattle.aw_term_reader.specs.Lexemes.{Lexeme, Name, Number, Node, Quoted, Mark}
-use Rattle.aw_term_reader.specs.Terms.{Expected, TermOrEnd, TermOnly, CommaOrEnd, BehindName, Opened, Reading, Read, On, AtEnd, Misplaced, spelling, spellings, spellings_behind, closed, at_term, at_comma, at_start, behind_name, read_one, go_on, read_terms, nothing_read, terms_up_to}
+use Rattle.aw_term_reader.specs.Terms.{Expected, TermOrEnd, TermOnly, CommaOrEnd, BehindName, Opened, Reading, Read, On, AtEnd, Misplaced, spelling}
+use Rattle.aw_term_reader.specs.Terms.{spellings, spellings_behind, closed, at_term, at_comma, at_start, behind_name, read_one, go_on, read_terms}
+use Rattle.aw_term_reader.specs.Terms.{nothing_read, terms_up_to}
 use Rattle.aw_term_reader.proofs.SomeTerms.{IsNonempty, some_more}
 
 -- terms with a comma behind each
@@ -67,7 +69,8 @@ closes close r [] terms mark e = by_test (nat_eq mark close) refl
     by_test false h = tt
 closes close r (o ∷ os) terms mark e = by_test (nat_eq mark 41) refl
   where
-    by_test : (b : Bool) → nat_eq mark 41 ≡ b → Steps close r (Mark mark) (cond b (On (record { opened = os; terms = o.before ++ Apply o.name (side_by_side terms) ∷ []; expected = CommaOrEnd })) Misplaced)
+    by_test : (b : Bool) → nat_eq mark 41 ≡ b → Steps close r (Mark mark)
+        (cond b (On (record { opened = os; terms = o.before ++ Apply o.name (side_by_side terms) ∷ []; expected = CommaOrEnd })) Misplaced)
     by_test true h = (
       ap (λ ls. opens os ++ ls) (last o.before (Apply o.name (side_by_side terms)))
           ∙ sym (ap (λ m. so_far r ++ Mark m ∷ []) (eqb-true mark 41 h) ∙ ap (λ ls. ls ++ Mark 41 ∷ []) e
@@ -83,8 +86,10 @@ with_last close r l os terms t e = (ap (λ ls. opens os ++ ls) (last terms t) �
 -- a term, where one may come
 terms_step : (close : ℕ) (r : Reading) (l : Lexeme) → so_far r ≡ opens r.opened ++ comma_each r.terms → Steps close r l (at_term r l)
 terms_step close r (Name name) e = (sym (append_assoc (opens r.opened) (comma_each r.terms) (Name name ∷ [])) ∙ ap (λ ls. ls ++ Name name ∷ []) (sym e), tt)
-terms_step close r (Number n) e = with_last close r (Number n) r.opened r.terms (Literal (P.Num n)) (ap (λ ls. ls ++ Number n ∷ []) e ∙ append_assoc (opens r.opened) (comma_each r.terms) (Number n ∷ []))
-terms_step close r (Quoted t) e = with_last close r (Quoted t) r.opened r.terms (Literal (P.Text t)) (ap (λ ls. ls ++ Quoted t ∷ []) e ∙ append_assoc (opens r.opened) (comma_each r.terms) (Quoted t ∷ []))
+terms_step close r (Number n) e = with_last close r (Number n) r.opened r.terms (Literal (P.Num n)) (ap (λ ls. ls ++ Number n ∷ []) e
+    ∙ append_assoc (opens r.opened) (comma_each r.terms) (Number n ∷ []))
+terms_step close r (Quoted t) e = with_last close r (Quoted t) r.opened r.terms (Literal (P.Text t)) (ap (λ ls. ls ++ Quoted t ∷ []) e
+    ∙ append_assoc (opens r.opened) (comma_each r.terms) (Quoted t ∷ []))
 terms_step close r (Node name) e = tt
 terms_step close r (Mark mark) e = tt
 
@@ -105,7 +110,8 @@ named_step : (close : ℕ) (os : List Opened) (terms : List Written) (name : Lis
 named_step close os terms name mark = by_test (nat_eq mark 40) refl
   where
     by_test : (b : Bool) → nat_eq mark 40 ≡ b → Steps close (record { opened = os; terms = terms; expected = BehindName name }) (Mark mark)
-        (cond b (On (record { opened = record { name = name; before = terms } ∷ os; terms = []; expected = TermOrEnd })) (at_comma close (record { opened = os; terms = terms ++ Word name ∷ []; expected = CommaOrEnd }) (Mark mark)))
+        (cond b (On (record { opened = record { name = name; before = terms } ∷ os; terms = []; expected = TermOrEnd }))
+        (at_comma close (record { opened = os; terms = terms ++ Word name ∷ []; expected = CommaOrEnd }) (Mark mark)))
     by_test true h = (
       append-nil (opens os ++ (comma_each terms ++ Name name ∷ Mark 40 ∷ []))
           ∙ sym (ap (λ m. (opens os ++ (comma_each terms ++ Name name ∷ [])) ++ Mark m ∷ []) (eqb-true mark 40 h) ∙ simp append_assoc),
@@ -114,18 +120,21 @@ named_step close os terms name mark = by_test (nat_eq mark 40) refl
     by_test false h = comma_step close (record { opened = os; terms = terms; expected = BehindName name }) (record { opened = os; terms = terms ++ Word name ∷ []; expected = CommaOrEnd }) mark
         (ap (λ ls. opens os ++ ls) (sym (last terms (Word name)))) (some_more terms (Word name))
 
-start_step : (close : ℕ) (os : List Opened) (l : Lexeme) → Steps close (record { opened = os; terms = []; expected = TermOrEnd }) l (at_start close (record { opened = os; terms = []; expected = TermOrEnd }) l)
+start_step : (close : ℕ) (os : List Opened) (l : Lexeme) → Steps close (record { opened = os; terms = []; expected = TermOrEnd }) l
+    (at_start close (record { opened = os; terms = []; expected = TermOrEnd }) l)
 start_step close os (Mark mark) = closes close (record { opened = os; terms = []; expected = TermOrEnd }) os [] mark refl
 start_step close os (Name name) = terms_step close (record { opened = os; terms = []; expected = TermOrEnd }) (Name name) refl
 start_step close os (Number n) = terms_step close (record { opened = os; terms = []; expected = TermOrEnd }) (Number n) refl
 start_step close os (Quoted t) = terms_step close (record { opened = os; terms = []; expected = TermOrEnd }) (Quoted t) refl
 start_step close os (Node name) = terms_step close (record { opened = os; terms = []; expected = TermOrEnd }) (Node name) refl
 
-one_step : (close : ℕ) (os : List Opened) (terms : List Written) (e : Expected) (l : Lexeme) → Fits terms e → Steps close (record { opened = os; terms = terms; expected = e }) l (read_one close (record { opened = os; terms = terms; expected = e }) e l)
+one_step : (close : ℕ) (os : List Opened) (terms : List Written) (e : Expected) (l : Lexeme) → Fits terms e →
+    Steps close (record { opened = os; terms = terms; expected = e }) l (read_one close (record { opened = os; terms = terms; expected = e }) e l)
 one_step close os [] TermOrEnd l f = start_step close os l
 one_step close os (t ∷ ts) TermOrEnd l f = absurd (cc)
 one_step close os terms TermOnly l f = terms_step close (record { opened = os; terms = terms; expected = TermOnly }) l refl
-one_step close os terms CommaOrEnd (Mark mark) f = comma_step close (record { opened = os; terms = terms; expected = CommaOrEnd }) (record { opened = os; terms = terms; expected = CommaOrEnd }) mark refl f
+one_step close os terms CommaOrEnd (Mark mark) f = comma_step close (record { opened = os; terms = terms; expected = CommaOrEnd })
+    (record { opened = os; terms = terms; expected = CommaOrEnd }) mark refl f
 one_step close os terms CommaOrEnd (Name name) f = tt
 one_step close os terms CommaOrEnd (Number n) f = tt
 one_step close os terms CommaOrEnd (Quoted t) f = tt
@@ -146,10 +155,12 @@ from_step close r l ls (AtEnd us) steps later ts rest e =
     let pair : ◌≡◌ {A = List Written × List Lexeme} (us, ls) (ts, rest) = cc in
     let same : us ≡ ts = ap (λ (p : List Written × List Lexeme). p.0) pair in
     let left : ls ≡ rest = ap (λ (p : List Written × List Lexeme). p.1) pair in
-    ap (λ k. k ++ l ∷ ls) steps.0 ∙ ap (λ vs. spellings (side_by_side vs) ++ l ∷ ls) same ∙ ap (λ k. spellings (side_by_side ts) ++ k ∷ ls) steps.1 ∙ ap (λ vs. spellings (side_by_side ts) ++ Mark close ∷ vs) left
+    ap (λ k. k ++ l ∷ ls) steps.0 ∙ ap (λ vs. spellings (side_by_side vs) ++ l ∷ ls) same ∙ ap (λ k. spellings (side_by_side ts) ++ k ∷ ls) steps.1
+    ∙ ap (λ vs. spellings (side_by_side ts) ++ Mark close ∷ vs) left
 from_step close r l ls Misplaced steps later ts rest e = absurd (cc)
 
-sound : (close : ℕ) (ls : List Lexeme) (r : Reading) → Fits r.terms r.expected → (ts : List Written) (rest : List Lexeme) → read_terms close r ls ≡ Some (ts, rest) → so_far r ++ ls ≡ spellings (side_by_side ts) ++ Mark close ∷ rest
+sound : (close : ℕ) (ls : List Lexeme) (r : Reading) → Fits r.terms r.expected → (ts : List Written) (rest : List Lexeme) →
+    read_terms close r ls ≡ Some (ts, rest) → so_far r ++ ls ≡ spellings (side_by_side ts) ++ Mark close ∷ rest
 sound close [] r f ts rest e = absurd (cc)
 sound close (l ∷ ls) r f ts rest e = from_step close r l ls (read_one close r r.expected l) (one_step close r.opened r.terms r.expected l f) (λ s g us left h. sound close ls s g us left h) ts rest e
 
@@ -157,5 +168,6 @@ pub spelled_if_read : (close : ℕ) (ls : List Lexeme) (ts : List Written) (rest
 spelled_if_read close ls ts rest e = sound close ls (nothing_read TermOrEnd) refl ts rest e
 
 -- the same where the list has one term or more
-pub some_spelled_if_read : (close : ℕ) (ls : List Lexeme) (ts : List Written) (rest : List Lexeme) → read_terms close (nothing_read TermOnly) ls ≡ Some (ts, rest) → ls ≡ spellings (side_by_side ts) ++ Mark close ∷ rest
+pub some_spelled_if_read : (close : ℕ) (ls : List Lexeme) (ts : List Written) (rest : List Lexeme) → read_terms close (nothing_read TermOnly)
+    ls ≡ Some (ts, rest) → ls ≡ spellings (side_by_side ts) ++ Mark close ∷ rest
 some_spelled_if_read close ls ts rest e = sound close ls (nothing_read TermOnly) tt ts rest e

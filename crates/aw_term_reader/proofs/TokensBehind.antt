@@ -20,7 +20,8 @@ token_further : (n : ℕ) (token : Token) (r : Result (List Token) ℕ) → with
 token_further n token (Ok ts) = refl
 token_further n token (Err at) = refl
 
-front_further : (n at : ℕ) (f : Front) (near far : ℕ → Result (List Token) ℕ) → ((passed : ℕ) → far passed ≡ all_further n (near passed)) → tokens_at f (n + at) far ≡ all_further n (tokens_at f at near)
+front_further : (n at : ℕ) (f : Front) (near far : ℕ → Result (List Token) ℕ) → ((passed : ℕ) → far passed ≡ all_further n (near passed)) →
+    tokens_at f (n + at) far ≡ all_further n (tokens_at f at near)
 front_further n at front.Blank near far h = h 0
 front_further n at (front.Token kind len) near far h =
     let token : Token = record { kind = kind; start = at; end = at + len } in

@@ -103,7 +103,8 @@ tried f w count n t r et S tells =
     subst (λ q. Tells (counted_after (named_by w) (plain_of w) (turns count (plain_of w) (record { world = v; tally = q; events = [] }))) r) et (tells v [] S)
 
 -- in the grammar of the trial
-pub tried_there : (w : Words) (g : Grammar) (count n : ℕ) (r : Result Summary PrintFault) → w ≡ trial_words → g ≡ trial_grammar → Tells (trial_in w g count n) r → Tells (trial_in trial_words trial_grammar count n) r
+pub tried_there : (w : Words) (g : Grammar) (count n : ℕ) (r : Result Summary PrintFault) → w ≡ trial_words → g ≡ trial_grammar →
+    Tells (trial_in w g count n) r → Tells (trial_in trial_words trial_grammar count n) r
 tried_there w g count n r ew eg told = subst (λ x. Tells (trial_in x trial_grammar count n) r) ew (subst (λ x. Tells (trial_in w x count n) r) eg told)
 
 -- what is told

@@ -17,20 +17,23 @@ use Rattle.aw_world.specs.WorldView.{plain_of}
 use Rattle.aw_trial.specs.declared.tally.Tally.{Tally}
 use Rattle.aw_trial.specs.Draws.{next_below, drew}
 use Rattle.aw_trial.specs.Comes.{Comes, Does, AreUpTo, AddsOne}
-use Rattle.aw_trial.specs.Turns.{State, start_case, make_choice, argument_for, drew_argument, params_of, develop, among_rules, at_node, among_nodes, rules_for, choose_some, deliver_some, turn, turn_on, turns}
+use Rattle.aw_trial.specs.Turns.{State, start_case, make_choice, argument_for, drew_argument, params_of, develop, among_rules, at_node, among_nodes}
+use Rattle.aw_trial.specs.Turns.{rules_for, choose_some, deliver_some, turn, turn_on, turns}
 
 -- nothing is done
 pub nothing : {W : Type 0} (f : Ghosts W) (w : World W f) (t : Tally) → Does f w t w t (λ s. s)
 nothing f w t v es S = record { world = S; tally = refl }
 
 -- ---- what is drawn
-pub rule_drawn : (g : Grammar) (n : Node) (rules : List ℕ) (t : Tally) (v : V.World) (es : List Event) (place rule : ℕ) → place < length rules → slice_get rules place ≡ Some rule → place ≡ next_below (length rules) t
+pub rule_drawn : (g : Grammar) (n : Node) (rules : List ℕ) (t : Tally) (v : V.World) (es : List Event) (place rule : ℕ) → place < length rules →
+    slice_get rules place ≡ Some rule → place ≡ next_below (length rules) t
     → develop g n rule (record { world = v; tally = drew t; events = es }) ≡ among_rules g n rules (record { world = v; tally = t; events = es })
 rule_drawn g n [] t v es place rule within got is = absurd (omega (arith, within))
 rule_drawn g n (r ∷ rs) t v es place rule within got is =
     ap (λ m. develop g n m (record { world = v; tally = drew t; events = es })) (sym (got_site r (r ∷ rs) place rule got) ∙ ap (get r (r ∷ rs)) is)
 
-pub node_drawn : (g : Grammar) (nodes : List Node) (t : Tally) (v : V.World) (es : List Event) (place : ℕ) (node : Node) → place < length nodes → slice_get nodes place ≡ Some node → place ≡ next_below (length nodes) t
+pub node_drawn : (g : Grammar) (nodes : List Node) (t : Tally) (v : V.World) (es : List Event) (place : ℕ) (node : Node) → place < length nodes →
+    slice_get nodes place ≡ Some node → place ≡ next_below (length nodes) t
     → at_node g node (record { world = v; tally = drew t; events = es }) ≡ among_nodes g nodes (record { world = v; tally = t; events = es })
 node_drawn g [] t v es place node within got is = absurd (omega (arith, within))
 node_drawn g (n ∷ ns) t v es place node within got is =
@@ -102,7 +105,8 @@ turned f w x y t u z n ea before does v es S =
     subst (λ (a : Accepted). Comes f y z (turn (grammar_of a.grammar) s)) ea
     (subst (λ q. Comes f y z (turn (plain_of x) (record { world = s.world; tally = q; events = s.events }))) came.tally (does s.world s.events came.world))
 
-pub turned_on : {W : Type 0} (f : Ghosts W) (w x y : World W f) (t u z : Tally) (n m : ℕ) → m ≡ n + 1 → x.accepted.now ≡ w.accepted.now → Does f w t x u (turns n (plain_of w)) → Does f x u y z (turn (plain_of x))
+pub turned_on : {W : Type 0} (f : Ghosts W) (w x y : World W f) (t u z : Tally) (n m : ℕ) → m ≡ n + 1 → x.accepted.now ≡ w.accepted.now →
+    Does f w t x u (turns n (plain_of w)) → Does f x u y z (turn (plain_of x))
     → Does f w t y z (turns m (plain_of w))
 turned_on f w x y t u z n m e ea before does =
     let more : suc n ≡ m = omega (arith, e) in

@@ -40,6 +40,8 @@ for_grammar g t es ek =
 
 pub in_range : (n m : ℕ) (t : Types) → t.shapes ≡ replicate n None → t.carries ≡ replicate m None → NumbersInRange (types_of t)
 in_range n m t es ek = record {
-  shapes = subst (λ (xs : List (Option Shape)). Each (ShapeInRange (2 + length t.names)) (map (λ (o : Option Shape). option_map shape_of o) xs)) (sym es) (each_none shape_of (ShapeInRange (2 + length t.names)) n tt);
-  carries = subst (λ (xs : List (Option Carry)). Each (CarryInRange (2 + length t.names)) (map (λ (o : Option Carry). option_map carry_of o) xs)) (sym ek) (each_none carry_of (CarryInRange (2 + length t.names)) m tt);
+  shapes = subst (λ (xs : List (Option Shape)). Each (ShapeInRange (2 + length t.names)) (map (λ (o : Option Shape). option_map shape_of o) xs))
+      (sym es) (each_none shape_of (ShapeInRange (2 + length t.names)) n tt);
+  carries = subst (λ (xs : List (Option Carry)). Each (CarryInRange (2 + length t.names)) (map (λ (o : Option Carry). option_map carry_of o) xs))
+      (sym ek) (each_none carry_of (CarryInRange (2 + length t.names)) m tt);
 }

@@ -20,13 +20,15 @@ use Rattle.aw_wait.proofs.WaitingRuns.{none_waits, some_waits_for_none}
 follows_same : (g : P.Grammar) (seed seed' : ℕ → ℕ → ℕ → Type 0) → ((s i j : ℕ) → seed s i j → seed' s i j) → (s i j : ℕ) → Follows g seed s i j → Follows g seed' s i j
 follows_same g seed seed' there = follows_least g seed (Follows g seed') (follows_closed g seed') (λ s i j x. follows_held g seed' s i j (there s i j x))
 
-pub waiting_follows : (g : P.Grammar) (seed has : ℕ → ℕ → ℕ → Type 0) → ((s i j : ℕ) → seed s i j ↔ IsHeldUp g s i j) → ((s i j : ℕ) → has s i j ↔ Follows g seed s i j) → (s i j : ℕ) → has s i j ↔ WaitingRelation g s i j
+pub waiting_follows : (g : P.Grammar) (seed has : ℕ → ℕ → ℕ → Type 0) → ((s i j : ℕ) → seed s i j ↔ IsHeldUp g s i j) →
+    ((s i j : ℕ) → has s i j ↔ Follows g seed s i j) → (s i j : ℕ) → has s i j ↔ WaitingRelation g s i j
 waiting_follows g seed has seeds made s i j = (
   (λ x. follows_same g seed (IsHeldUp g) (λ s i j y. (seeds s i j).0 y) s i j ((made s i j).0 x)),
   (λ x. (made s i j).1 (follows_same g (IsHeldUp g) seed (λ s i j y. (seeds s i j).1 y) s i j x)),
 )
 
-pub waiting_if_ok : {E : Type 0} (g : P.Grammar) (seed : Io) (r : Result Io E) → ((s i j : ℕ) → Has seed s i j ↔ IsHeldUp g s i j) → IfOk r (λ io. (s i j : ℕ) → Has io s i j ↔ Follows g (Has seed) s i j)
+pub waiting_if_ok : {E : Type 0} (g : P.Grammar) (seed : Io) (r : Result Io E) → ((s i j : ℕ) → Has seed s i j ↔ IsHeldUp g s i j) →
+    IfOk r (λ io. (s i j : ℕ) → Has io s i j ↔ Follows g (Has seed) s i j)
     → IfOk r (λ io. (s i j : ℕ) → Has io s i j ↔ WaitingRelation g s i j)
 waiting_if_ok g seed (Ok io) seeds made = waiting_follows g (Has seed) (Has io) seeds made
 waiting_if_ok g seed (Err e) seeds made = tt

@@ -67,13 +67,15 @@ item_zero : {A : Type 0} (xs : List A) (x : A) → item xs 0 ≡ Some x → Neve
 item_zero xs x e = absurd cc
 
 -- by one pattern more
-pub one_pattern : (g : P.Grammar) (r : P.Rule) (n : ℕ) (p : Term) → slice_get r.patterns n ≡ Some p → (s i j : ℕ) → ByFirst g r n s i j ⊎ AtPattern r.sort (gives g r.sort) (n + 1) p s i j → ByFirst g r (n + 1) s i j
+pub one_pattern : (g : P.Grammar) (r : P.Rule) (n : ℕ) (p : Term) → slice_get r.patterns n ≡ Some p → (s i j : ℕ) → ByFirst g r n s i j
+    ⊎ AtPattern r.sort (gives g r.sort) (n + 1) p s i j → ByFirst g r (n + 1) s i j
 one_pattern g r n p at s i j (inl (le, held)) = (omega (arith, le), held)
 one_pattern g r n p at s i j (inr (l, (a, b, low, few))) =
     let e : n + 1 ≡ suc n = omega arith in
     (omega (arith, b), (a, (p, subst (λ k. item r.patterns k ≡ Some p) (sym (b ∙ e)) at, l), low, few))
 
-pub last_pattern : (g : P.Grammar) (r : P.Rule) (n : ℕ) (p : Term) → slice_get r.patterns n ≡ Some p → (s i j : ℕ) → ByFirst g r (n + 1) s i j → ByFirst g r n s i j ⊎ AtPattern r.sort (gives g r.sort) (n + 1) p s i j
+pub last_pattern : (g : P.Grammar) (r : P.Rule) (n : ℕ) (p : Term) → slice_get r.patterns n ≡ Some p → (s i j : ℕ) → ByFirst g r (n + 1) s i j →
+    ByFirst g r n s i j ⊎ AtPattern r.sort (gives g r.sort) (n + 1) p s i j
 last_pattern g r n p at s i j (le, (a, (q, got, l), low, few)) =
     let lt : i < n + 1 + 1 = omega (arith, le) in
     elim (below_or_at i (n + 1) lt) [
@@ -110,7 +112,8 @@ pub held_up_all : (g : P.Grammar) (n : ℕ) (s i j : ℕ) → IsHeldUpBefore g n
 held_up_all g n s i j (k, lt, r, at, (e, (p, got, l), low, few)) =
     ((r, p, member_got g.rules k r at, sym e, got, l), low, subst (λ t. j ≤ gives g t) (sym e) few)
 
-pub rule_more : (g : P.Grammar) (r : P.Rule) (n count value : ℕ) (p : Term) (a b c : Io) → slice_get r.patterns n ≡ Some p → count ≡ gives g r.sort → value ≡ n + 1 → Adds a b (ByFirst g r n) → Adds b c (AtPattern r.sort count value p) → Adds a c (ByFirst g r (n + 1))
+pub rule_more : (g : P.Grammar) (r : P.Rule) (n count value : ℕ) (p : Term) (a b c : Io) → slice_get r.patterns n ≡ Some p → count ≡ gives g r.sort →
+    value ≡ n + 1 → Adds a b (ByFirst g r n) → Adds b c (AtPattern r.sort count value p) → Adds a c (ByFirst g r (n + 1))
 rule_more g r n count value p a b c at many next first then =
     adds_both a b c (ByFirst g r n) (AtPattern r.sort (gives g r.sort) (n + 1) p) (ByFirst g r (n + 1)) first
     (subst (λ m. Adds b c (AtPattern r.sort m (n + 1) p)) many (subst (λ k. Adds b c (AtPattern r.sort count k p)) next then)) (one_pattern g r n p at) (last_pattern g r n p at)

@@ -84,4 +84,5 @@ closed_sound links heads keys sized closed =
     chain list head = let c = closed list (omega (arith, head)) in (wide_next links list ∙ c.0, wide_prev links list ∙ c.1)
 
     no_keys : (list : ℕ) → list < heads → keys_of (all_wide links) (replicate keys nobody) heads list ≡ []
-    no_keys list head = keys_of_ring (all_wide links) (replicate keys nobody) heads list [] (chain list head) (omega (arith, sum_by-replicate (λ (o : Option ℕ). cond (is_list list o) 1 0) keys nobody))
+    no_keys list head = keys_of_ring (all_wide links) (replicate keys nobody) heads list [] (chain list head)
+        (omega (arith, sum_by-replicate (λ (o : Option ℕ). cond (is_list list o) 1 0) keys nobody))

@@ -1,5 +1,6 @@
 -- A triple that was taken out, under its key still.
-use Rattle.std.proofs.Common.{◌≡◌, ℕ, ◌+◌, ◌%◌, ◌<◌, inl, inr, cond, List, ◌∷◌, set, get_or, length, Option, Some, None, count_by, is_some, sym, ap, ◌∙◌, subst, arith, get_or-set_same, get_or-set_other}
+use Rattle.std.proofs.Common.{◌≡◌, ℕ, ◌+◌, ◌%◌, ◌<◌, inl, inr, cond, List, ◌∷◌, set, get_or, length, Option, Some, None, count_by, is_some, sym, ap}
+use Rattle.std.proofs.Common.{◌∙◌, subst, arith, get_or-set_same, get_or-set_other}
 use Rattle.std.proofs.lemmas.Bool.{cases_eq, cases_lt}
 use Rattle.std.proofs.lemmas.List.{get_or_past}
 use Rattle.std.proofs.lemmas.List.Sums.{sum_by-set}
@@ -39,16 +40,20 @@ module _ {T : Type 0} (xs : List (Option T)) (key : ℕ) (t : T) (here : get_or 
       (λ i d. get_or-set_other xs key i (Some u) None d ∙ sym (get_or-set_other xs key i None None d))
 
 -- what was taken out is listed again by its new slot
-pub again_indexed : (s : Slab Triple) (slots slots' nodes : LinkedLists) (key slot : ℕ) (t : Triple) → IsIndexed s slots nodes (Some key) → get s key ≡ Some t → Moves slots slots' key (Some (slot % list_count slots)) → IsIndexed (with_value s key (triple slot t.node t.rule)) slots' nodes None
+pub again_indexed : (s : Slab Triple) (slots slots' nodes : LinkedLists) (key slot : ℕ) (t : Triple) → IsIndexed s slots nodes (Some key) →
+    get s key ≡ Some t → Moves slots slots' key (Some (slot % list_count slots)) → IsIndexed (with_value s key (triple slot t.node t.rule)) slots' nodes None
 again_indexed s slots slots' nodes key slot t i here m =
     record {
       by_slot = λ k. elim (cases_eq k key) [
         | inl e ↦
             subst (λ q. list_of slots' q ≡ option_map (λ n. n % list_count slots') (option_map (λ (u : Triple). u.slot) (get_or after q None))) (sym e)
-            (m.moved ∙ ap (λ c. Some (slot % c)) (sym m.count) ∙ sym (ap (λ o. option_map (λ n. n % list_count slots') (option_map (λ (u : Triple). u.slot) o)) (get_or-set_same s.slots key (Some again) None inside)))
+            (m.moved ∙ ap (λ c. Some (slot % c)) (sym m.count)
+            ∙ sym (ap (λ o. option_map (λ n. n % list_count slots') (option_map (λ (u : Triple). u.slot) o))
+            (get_or-set_same s.slots key (Some again) None inside)))
         | inr d ↦
             m.others k d ∙ i.by_slot k ∙ ap (λ c. option_map (λ n. n % c) (option_map (λ (u : Triple). u.slot) (get_or (set s.slots key None) k None))) (sym m.count)
-            ∙ ap (λ o. option_map (λ n. n % list_count slots') (option_map (λ (u : Triple). u.slot) o)) (get_or-set_other s.slots key k None None d ∙ sym (get_or-set_other s.slots key k (Some again) None d))
+            ∙ ap (λ o. option_map (λ n. n % list_count slots') (option_map (λ (u : Triple). u.slot) o)) (get_or-set_other s.slots key k None None d
+            ∙ sym (get_or-set_other s.slots key k (Some again) None d))
       ];
       by_node = λ k. i.by_node k ∙ ap (option_map (λ n. n % list_count nodes)) (same_node k);
       slot_room = omega (arith, i.slot_room, m.limit);

@@ -1,5 +1,6 @@
 -- The values of places, when one place changes.
-use Rattle.std.proofs.Common.{◌≡◌, ◌≢◌, ℕ, zero, suc, ◌+◌, ◌-◌, zero-add, Bool, false, cond, List, [], ◌∷◌, ◌++◌, get_or, Option, Some, None, count_by, refl, sym, ap, ◌∙◌, subst, arith, ne_eqb, eq-eqb, nat_eq, length, ◌<◌, ◌≤◌, IfSome, is_some, take, append-nil}
+use Rattle.std.proofs.Common.{◌≡◌, ◌≢◌, ℕ, zero, suc, ◌+◌, ◌-◌, zero-add, Bool, false, cond, List, [], ◌∷◌, ◌++◌, get_or, Option, Some, None, count_by}
+use Rattle.std.proofs.Common.{refl, sym, ap, ◌∙◌, subst, arith, ne_eqb, eq-eqb, nat_eq, length, ◌<◌, ◌≤◌, IfSome, is_some, take, append-nil}
 use Rattle.std.proofs.lemmas.List.{length-append}
 use Rattle.std.specs.Prelude.{not, filter}
 use Rattle.std.proofs.lemmas.Bool.{cond-true, cond-false, not_from_false, not_from_true}
@@ -48,7 +49,8 @@ module _ {T : Type 0} where
   front_more v (Some w) r s h = IsPermutation-trans (v ∷ w ∷ r) (w ∷ v ∷ r) (w ∷ s) (IsPermutation-middle (v ∷ []) w r) (IsPermutation-cons w (v ∷ r) s h)
 
   -- a value in an empty place is one more value
-  pub values_added : (key : ℕ) (xs ys : List (Option T)) (v : T) → get_or xs key None ≡ None → get_or ys key None ≡ Some v → ((i : ℕ) → i ≢ key → get_or ys i None ≡ get_or xs i None) → IsPermutation (v ∷ values xs) (values ys)
+  pub values_added : (key : ℕ) (xs ys : List (Option T)) (v : T) → get_or xs key None ≡ None → get_or ys key None ≡ Some v →
+      ((i : ℕ) → i ≢ key → get_or ys i None ≡ get_or xs i None) → IsPermutation (v ∷ values xs) (values ys)
   values_added zero xs ys v free here others =
       let old : values xs ≡ values (later xs) = values_split xs ∙ ap (λ o. front o (values (later xs))) free in
       let new : values ys ≡ v ∷ values (later ys) = values_split ys ∙ ap (λ o. front o (values (later ys))) here in
@@ -57,21 +59,24 @@ module _ {T : Type 0} where
   values_added (suc key) xs ys v free here others =
       let more = values_added key (later xs) (later ys) v (later_at xs key ∙ free) (later_at ys key ∙ here) (λ i d. later_at ys i ∙ others (suc i) (λ e. d (omega (arith, e))) ∙ sym (later_at xs i)) in
       let new : values ys ≡ front (get_or xs 0 None) (values (later ys)) = values_split ys ∙ ap (λ o. front o (values (later ys))) (others 0 (λ e. omega (arith, e))) in
-      subst (λ r. IsPermutation (v ∷ r) (values ys)) (sym (values_split xs)) (subst (IsPermutation (v ∷ front (get_or xs 0 None) (values (later xs)))) (sym new) (front_more v (get_or xs 0 None) (values (later xs)) (values (later ys)) more))
+      subst (λ r. IsPermutation (v ∷ r) (values ys)) (sym (values_split xs)) (subst (IsPermutation (v ∷ front (get_or xs 0 None) (values (later xs))))
+      (sym new) (front_more v (get_or xs 0 None) (values (later xs)) (values (later ys)) more))
 
   front_filter : (p : T → Bool) (o : Option T) (r s : List T) → filter p r ≡ filter p s → filter p (front o r) ≡ filter p (front o s)
   front_filter p None r s h = h
   front_filter p (Some w) r s h = ap (λ q. cond (p w) (w ∷ q) q) h
 
   -- a value that a test refuses may come or go
-  pub values_filtered : (p : T → Bool) (key : ℕ) (xs ys : List (Option T)) (v : T) → p v ≡ false → get_or xs key None ≡ None → get_or ys key None ≡ Some v → ((i : ℕ) → i ≢ key → get_or ys i None ≡ get_or xs i None) → filter p (values xs) ≡ filter p (values ys)
+  pub values_filtered : (p : T → Bool) (key : ℕ) (xs ys : List (Option T)) (v : T) → p v ≡ false → get_or xs key None ≡ None →
+      get_or ys key None ≡ Some v → ((i : ℕ) → i ≢ key → get_or ys i None ≡ get_or xs i None) → filter p (values xs) ≡ filter p (values ys)
   values_filtered p zero xs ys v refused free here others =
       let old : values xs ≡ values (later xs) = values_split xs ∙ ap (λ o. front o (values (later xs))) free in
       let new : values ys ≡ v ∷ values (later ys) = values_split ys ∙ ap (λ o. front o (values (later ys))) here in
       let same : values (later xs) ≡ values (later ys) = values_same (later xs) (later ys) (λ i. later_at ys i ∙ others (suc i) (λ e. omega (arith, e)) ∙ sym (later_at xs i)) in
       ap (filter p) (old ∙ same) ∙ sym (cond-false (p v) (v ∷ filter p (values (later ys))) (filter p (values (later ys))) refused) ∙ ap (filter p) (sym new)
   values_filtered p (suc key) xs ys v refused free here others =
-      let more = values_filtered p key (later xs) (later ys) v refused (later_at xs key ∙ free) (later_at ys key ∙ here) (λ i d. later_at ys i ∙ others (suc i) (λ e. d (omega (arith, e))) ∙ sym (later_at xs i)) in
+      let more = values_filtered p key (later xs) (later ys) v refused (later_at xs key ∙ free) (later_at ys key ∙ here) (λ i d. later_at ys i
+      ∙ others (suc i) (λ e. d (omega (arith, e))) ∙ sym (later_at xs i)) in
       let new : values ys ≡ front (get_or xs 0 None) (values (later ys)) = values_split ys ∙ ap (λ o. front o (values (later ys))) (others 0 (λ e. omega (arith, e))) in
       ap (filter p) (values_split xs) ∙ front_filter p (get_or xs 0 None) (values (later xs)) (values (later ys)) more ∙ ap (filter p) (sym new)
 
@@ -103,7 +108,11 @@ pub settled_room : (b : Stored) → b.taken ≡ None → room b ≡ b.pairs.capa
 settled_room b free = ap (λ o. b.pairs.capacity - slab_len (left_out o b.pairs)) free
 
 -- a triple of the node is taken out
-pub dropped : (old new : Stored) (key node : ℕ) (r : Option Triple) → old.taken ≡ None → new.taken ≡ None → r ≡ get old.pairs key → number_at by.Node old.pairs key ≡ Some node → Updates old.pairs new.pairs key None → IfSome r (λ t. IsPermutation (triples old) (t ∷ triples new)) → IfSome r (λ t. room new ≡ room old + 1) → (others_than node (triples new) ≡ others_than node (triples old)) × (room new + length (triples new) ≡ room old + length (triples old)) × (length (triples new) < length (triples old))
+pub dropped : (old new : Stored) (key node : ℕ) (r : Option Triple) → old.taken ≡ None → new.taken ≡ None → r ≡ get old.pairs key →
+    number_at by.Node old.pairs key ≡ Some node → Updates old.pairs new.pairs key None →
+    IfSome r (λ t. IsPermutation (triples old) (t ∷ triples new)) → IfSome r (λ t. room new ≡ room old + 1) →
+    (others_than node (triples new) ≡ others_than node (triples old)) × (room new + length (triples new) ≡ room old + length (triples old))
+    × (length (triples new) < length (triples old))
 dropped old new key node None free still is has up perm more = absurd (none-some node (ap (option_map (λ (t : Triple). t.node)) is ∙ has))
 dropped old new key node (Some t) free still is has up perm more =
     let own : t.node ≡ node = same_mapped (λ (u : Triple). u.node) (get old.pairs key) node t has (sym is) in
@@ -157,7 +166,8 @@ room_for xs k t here =
     omega (arith, more, length-append (values (take k xs)) (t ∷ []), fewer_taken xs (suc k))
 
 -- a value that comes is added
-pub copied : {T : Type 0} (xs : List (Option T)) (k : ℕ) (t : T) (old new : List T) → Some t ≡ get_or xs k None → IsPermutation (values (take k xs)) old → IsPermutation (t ∷ old) new → IsPermutation (values (take (k + 1) xs)) new
+pub copied : {T : Type 0} (xs : List (Option T)) (k : ℕ) (t : T) (old new : List T) → Some t ≡ get_or xs k None → IsPermutation (values (take k xs))
+    old → IsPermutation (t ∷ old) new → IsPermutation (values (take (k + 1) xs)) new
 copied xs k t old new here all put =
     let is : values (take (k + 1) xs) ≡ values (take k xs) ++ t ∷ [] = ap (λ n. values (take n xs)) (next_is k) ∙ values_taken xs k ∙ ap (λ o. values (take k xs) ++ listed o) (sym here) in
     subst (λ ys. IsPermutation ys new) (sym is) (IsPermutation-push_more (values (take k xs)) old new t all put)

@@ -54,7 +54,8 @@ module _ {W : Type 0} (f : Ghosts W) (ws : List W) (ps : List ℕ) (best at : �
       (new, is, record { behind = λ le. node_order.chain k.node old.node new.node (behind_old old j k x) after; ahead = λ lt. absurd (omega (arith, lt, l)) }))
       (λ k e. let same : new ≡ k = cc in (new, is, itself at new k same)) j l k e
     where
-      by_place : (old : Held) (j : ℕ) (k : Held) → IsFirst best old j k → (b : Bool) → node_lt k.node old.node ≡ b → (best < j → node_lt k.node old.node ≡ false) → (j ≤ best → node_lt k.node old.node ≡ false) → b ≡ false
+      by_place : (old : Held) (j : ℕ) (k : Held) → IsFirst best old j k → (b : Bool) → node_lt k.node old.node ≡ b →
+          (best < j → node_lt k.node old.node ≡ false) → (j ≤ best → node_lt k.node old.node ≡ false) → b ≡ false
       by_place old j k x false e far near = refl
       by_place old j k x true e far near =
           let a : best < j → ⊥ = λ l. let z = far l in cc in

@@ -8,7 +8,8 @@ use Rattle.aw_out.specs.declared.error.PrintFault.{PrintFault}
 use Rattle.aw_out.specs.Report.{Bounded, Prints}
 use Rattle.aw_out.proofs.Printing.{Prints-stopped, Prints-second}
 
-pub stops : (whole a b : List ℕ) (old new : Bounded) (r1 r : Result Unit PrintFault) (fault : PrintFault) → whole ≡ a ++ b → r1 ≡ Err fault → r ≡ Err fault → Prints a old new r1 → Prints whole old new r
+pub stops : (whole a b : List ℕ) (old new : Bounded) (r1 r : Result Unit PrintFault) (fault : PrintFault) → whole ≡ a ++ b → r1 ≡ Err fault →
+    r ≡ Err fault → Prints a old new r1 → Prints whole old new r
 stops whole a b old new r1 r fault e err same first =
     subst (λ t. Prints t old new r) (sym e) (subst (λ x. Prints (a ++ b) old new x) (sym same) (Prints-stopped a b old new fault (subst (λ x. Prints a old new x) err first)))
 
@@ -17,7 +18,8 @@ goes_on whole a b old mid new r1 r e ok first second =
     subst (λ t. Prints t old new r) (sym e) (Prints-second a b old mid new r (subst (λ x. Prints a old mid x) ok first) second)
 
 -- the items of two lists at one place, where the one tells of the other
-pub told_here : {S H : Type 0} (at : S → Option H) (spots : List S) (hs : List H) (i : ℕ) (s : S) → map at spots ≡ map Some hs → slice_get spots i ≡ Some s → (h : H) × (at s ≡ Some h) × (slice_get hs i ≡ Some h)
+pub told_here : {S H : Type 0} (at : S → Option H) (spots : List S) (hs : List H) (i : ℕ) (s : S) → map at spots ≡ map Some hs →
+    slice_get spots i ≡ Some s → (h : H) × (at s ≡ Some h) × (slice_get hs i ≡ Some h)
 told_here at [] hs i s e is = absurd cc
 told_here at (x ∷ spots) [] i s e is = absurd cc
 told_here at (x ∷ spots) (h ∷ hs) zero s e is = let same : x ≡ s = same_Some x s is in let z : at x ≡ Some h = cc in (h, ap at (sym same) ∙ z, refl)

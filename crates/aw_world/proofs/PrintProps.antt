@@ -33,7 +33,12 @@ same_front text old new a b =
 front_prop : (text : List ℕ) (old new : Bounded) → IsProp (PrintsFront text old new)
 front_prop text old new = λ a b.
     let e = same_front text old new a b in
-    λ i. (e i, is_prop→PathP (λ j. e j ≤ length text) (λ j. le_prop) a.1 b.1 i, is_prop→PathP (λ j. new ≡ printed old (take (e j) text)) (λ j. bounded_set new (printed old (take (e j) text))) a.2 b.2 i)
+    λ i. (
+      e i,
+      is_prop→PathP (λ j. e j ≤ length text) (λ j. le_prop) a.1 b.1 i,
+      is_prop→PathP (λ j. new ≡ printed old (take (e j) text))
+          (λ j. bounded_set new (printed old (take (e j) text))) a.2 b.2 i,
+    )
 
 pub prints_prop : (text : List ℕ) (old new : Bounded) (r : Result Unit PrintFault) → IsProp (Prints text old new r)
 prints_prop text old new (Ok u) = λ a b i. record {

@@ -46,14 +46,16 @@ pub new_more : (ps : List Printer) (p : Printer) → AreNew ps → IsNew p → A
 new_more [] p all new = (new, tt)
 new_more (x ∷ ps) p all new = (all.0, new_more ps p all.1 new)
 
-pub keep_new : {W : Type 0} (f : Ghosts W) → ((w : W) (g : Grammar) (report : Bounded) (p : Printer) → IsNew p → f.keeps w g report p) → (g : Grammar) (report : Bounded) (ws : List W) (ps : List Printer) → length ps ≡ length ws → AreNew ps → KeepEach f g report ws ps
+pub keep_new : {W : Type 0} (f : Ghosts W) → ((w : W) (g : Grammar) (report : Bounded) (p : Printer) → IsNew p → f.keeps w g report p) →
+    (g : Grammar) (report : Bounded) (ws : List W) (ps : List Printer) → length ps ≡ length ws → AreNew ps → KeepEach f g report ws ps
 keep_new f law g report [] [] l all = tt
 keep_new f law g report [] (p ∷ ps) l all = absurd (omega (arith, l))
 keep_new f law g report (w ∷ ws) [] l all = absurd (omega (arith, l))
 keep_new f law g report (w ∷ ws) (p ∷ ps) l all = (law w g report p all.0, keep_new f law g report ws ps (omega (arith, l)) all.1)
 
 -- all that is kept stays so where the report grows
-pub keep_on : {W : Type 0} (f : Ghosts W) → ((w : W) (g : Grammar) (old new : Bounded) (p : Printer) → HasGrown old new → f.keeps w g old p → f.keeps w g new p) → (g : Grammar) (old new : Bounded) → HasGrown old new → (ws : List W) (ps : List Printer) →
+pub keep_on : {W : Type 0} (f : Ghosts W) → ((w : W) (g : Grammar) (old new : Bounded) (p : Printer) → HasGrown old new → f.keeps w g old p →
+    f.keeps w g new p) → (g : Grammar) (old new : Bounded) → HasGrown old new → (ws : List W) (ps : List Printer) →
     KeepEach f g old ws ps → KeepEach f g new ws ps
 keep_on f law g old new grown [] [] kept = tt
 keep_on f law g old new grown [] (p ∷ ps) kept = kept

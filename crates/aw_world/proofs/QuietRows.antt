@@ -30,7 +30,8 @@ module _ {W : Type 0} (f : Ghosts W) (w : World W f) (quiet : first_open w ≡ N
   is_quiet v S = ap (V.first_false 0) S.delivered ∙ quiet
 
   -- the rows that are read are the artifacts
-  pub prints_quiet : (old new : Bounded) (r : Result Unit PrintFault) → ((v : V.World) → Shows f w v → PrintsRows w.accepted.now.grammar v old new r) → PrintsArtifacts w.accepted.now.grammar w.taken.items old new r
+  pub prints_quiet : (old new : Bounded) (r : Result Unit PrintFault) → ((v : V.World) → Shows f w v → PrintsRows w.accepted.now.grammar v old new
+      r) → PrintsArtifacts w.accepted.now.grammar w.taken.items old new r
   prints_quiet old new r prints c e =
       let d = w.accepted.now.grammar in
       let p = grammar_of d in
@@ -42,7 +43,8 @@ module _ {W : Type 0} (f : Ghosts W) (w : World W f) (quiet : first_open w ≡ N
       subst (λ t. Prints t old new r) (sym same) (prints v x.2 rows read))))
 
   -- there are as many nodes as rows
-  pub quiet_length : (n : ℕ) → ((v : V.World) → Shows f w v → n ≡ length (gather v.sites)) → (c : Config) → undivided (grammar_of w.accepted.now.grammar) [] (map choice_of w.taken.items) ≡ Some c → n ≡ length c
+  pub quiet_length : (n : ℕ) → ((v : V.World) → Shows f w v → n ≡ length (gather v.sites)) → (c : Config) →
+      undivided (grammar_of w.accepted.now.grammar) [] (map choice_of w.taken.items) ≡ Some c → n ≡ length c
   quiet_length n count c e =
       let d = w.accepted.now.grammar in
       let p = grammar_of d in

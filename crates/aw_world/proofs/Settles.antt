@@ -22,7 +22,9 @@ use Rattle.aw_law_worlds.proofs.Settling.{settle_more, settle_done, settle_taken
 
 module _ {W : Type 0} (f : Ghosts W) (w : World W f) where
   -- a bound that holds of the plain world that events lead to
-  at_reached : (m n : ℕ) → ((es : List V.Move) → Each (MayCome (grammar_of w.accepted.now.grammar)) es → Shows f w (world_after (grammar_of w.accepted.now.grammar) w.loads es) → IsAccepted (words_of w.accepted.now.grammar) (grammar_of w.accepted.now.grammar) → m ≤ n) → m ≤ n
+  at_reached : (m n : ℕ) → ((es : List V.Move) → Each (MayCome (grammar_of w.accepted.now.grammar)) es →
+      Shows f w (world_after (grammar_of w.accepted.now.grammar) w.loads es) → IsAccepted (words_of w.accepted.now.grammar)
+      (grammar_of w.accepted.now.grammar) → m ≤ n) → m ≤ n
   at_reached m n go = ∥∥₁_elim w.accepted.now.grammar.well_formed le_prop (λ formed. ∥∥₁_elim w.accepted.now.sound le_prop (λ sound. ∥∥₁_elim w.reached le_prop (λ r. go r.0 r.1 r.2 (formed, sound))))
 
   pub counted : (v : V.World) → Shows f w v → count_set v.delivered ≡ count_set w.marks.delivered.items
@@ -72,7 +74,8 @@ module _ {W : Type 0} (f : Ghosts W) (w x : World W f) (k : ℕ) (first : V.firs
       )
 
   -- so the deliveries that are left come down
-  pub fewer_left : bound_of (grammar_of w.accepted.now.grammar) (map choice_of x.taken.items) - count_set x.marks.delivered.items < bound_of (grammar_of w.accepted.now.grammar) (map choice_of w.taken.items) - count_set w.marks.delivered.items
+  pub fewer_left : bound_of (grammar_of w.accepted.now.grammar) (map choice_of x.taken.items) - count_set x.marks.delivered.items < bound_of
+      (grammar_of w.accepted.now.grammar) (map choice_of w.taken.items) - count_set w.marks.delivered.items
   fewer_left =
       let p = grammar_of w.accepted.now.grammar in
       at_reached f w _ _ (λ es may S accepted.
@@ -112,6 +115,7 @@ settled_all f w n v quiet S =
     let t : bound_of p (map choice_of w.taken.items) ≡ bound_of p v.taken = ap (bound_of p) (sym S.taken ∙ settle_taken p m v) in
     subst (Shows f w) (sym (settle_done p m (bound_of p v.taken) v (omega (arith, b, t)) (ap (V.first_false 0) S.delivered ∙ quiet))) S
 
-pub settled_whole : {W : Type 0} (f : Ghosts W) (w : World W f) (p : Grammar) → grammar_of w.accepted.now.grammar ≡ p → (n : ℕ) (v : V.World) → V.first_false 0 (marks w.messages w.marks.delivered.items) ≡ None
+pub settled_whole : {W : Type 0} (f : Ghosts W) (w : World W f) (p : Grammar) → grammar_of w.accepted.now.grammar ≡ p → (n : ℕ) (v : V.World) →
+    V.first_false 0 (marks w.messages w.marks.delivered.items) ≡ None
     → Shows f w (V.settle (count_set w.marks.delivered.items - n) p v) → Shows f w (V.settle (bound_of p v.taken) p v)
 settled_whole f w p e n v quiet = subst (λ q. Shows f w (V.settle (count_set w.marks.delivered.items - n) q v) → Shows f w (V.settle (bound_of q v.taken) q v)) e (settled_all f w n v quiet)

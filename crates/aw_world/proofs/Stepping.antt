@@ -96,7 +96,8 @@ module _ {W : Type 0} (f : Ghosts W) (d : Grammar) (ws xs : List W) (ms ns : Lis
         world = record {
           sites = G.sites;
           messages = ap (λ z. z ++ y.sent) S.messages ∙ sym G.messages;
-          delivered = ap (λ z. slice_set (z ++ map (λ m. false) y.sent) k true) (S.delivered ∙ sym (pad ms)) ∙ ap (λ z. slice_set z k true) (sym (marks_more ms ns bs y.sent l m)) ∙ sym (marks_set ns bs k h (omega (arith, l, m)));
+          delivered = ap (λ z. slice_set (z ++ map (λ m. false) y.sent) k true) (S.delivered ∙ sym (pad ms)) ∙ ap (λ z. slice_set z k true)
+              (sym (marks_more ms ns bs y.sent l m)) ∙ sym (marks_set ns bs k h (omega (arith, l, m)));
           taken = S.taken;
         };
         reply = new_reply b G.fresh;

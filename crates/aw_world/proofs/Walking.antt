@@ -46,7 +46,8 @@ module _ {W : Type 0} (f : Ghosts W) where
   left_without [] [] b p l e = refl
   left_without [] (q ∷ ps) b p l e = absurd (omega (arith, l))
   left_without (w ∷ ws) [] b p l e = absurd (omega (arith, l))
-  left_without (w ∷ ws) (q ∷ ps) zero p l e = let same : q ≡ p = cc in ap (λ n. drop (suc n) (f.its_nodes w) ∷ left_of f ws ps) (sym same) ∙ ap (λ hs. hs ∷ left_of f ws ps) (drop_more q (f.its_nodes w))
+  left_without (w ∷ ws) (q ∷ ps) zero p l e = let same : q ≡ p = cc in ap (λ n. drop (suc n) (f.its_nodes w) ∷ left_of f ws ps) (sym same)
+      ∙ ap (λ hs. hs ∷ left_of f ws ps) (drop_more q (f.its_nodes w))
   left_without (w ∷ ws) (q ∷ ps) (suc b) p l e = ap (λ hss. drop q (f.its_nodes w) ∷ hss) (left_without ws ps b p (omega (arith, l)) e)
 
   pub left_start : (ws : List W) (n : ℕ) → left_of f ws (replicate n 0) ≡ nodes_of f ws
@@ -116,6 +117,7 @@ passes f up ws ps new b spot l first some is set =
     let there : held_at f ws spot ≡ Some s.node =
     ap (held_at f ws) is ∙ ap (λ o. option_and_then (λ w. slice_get (f.its_nodes w) (get_or ps b 0)) o) s.site_is ∙ ap (λ n. slice_get (f.its_nodes s.workspace) n) p ∙ s.node_is in
     let next : next_of f ws ps b ≡ Some s.node =
-    ap (λ o. option_and_then (λ w. option_and_then (λ p. slice_get (f.its_nodes w) p) (slice_get ps b)) o) s.site_is ∙ ap (λ o. option_and_then (λ p. slice_get (f.its_nodes s.workspace) p) o) s.place_is ∙ s.node_is in
+    ap (λ o. option_and_then (λ w. option_and_then (λ p. slice_get (f.its_nodes w) p) (slice_get ps b)) o) s.site_is
+    ∙ ap (λ o. option_and_then (λ p. slice_get (f.its_nodes s.workspace) p) o) s.place_is ∙ s.node_is in
     let moved : new ≡ slice_set ps b (suc s.place) = set ∙ ap (slice_set ps b) (let z : get_or ps b 0 + 1 ≡ suc s.place = omega (arith, p) in z) in
     (s.node, there, taken_next f up ws ps b s.place s.node l first next s.place_is ∙ ap (λ qs. s.node ∷ merged (left_of f ws qs)) (sym moved))

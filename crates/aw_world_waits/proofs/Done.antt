@@ -38,15 +38,21 @@ marked : (h : Held) (n : Node) (st : State) → h.node ≡ n → mark n st h ≡
 marked h n st e = ap (λ b. cond b (record h { state = st }) h) (subst (λ m. node_eq n m ≡ true) (sym e) (node_self n))
 
 -- a choice that is taken develops its node
-done_by : (g : Grammar) (s : Site) (n : Node) (r : ℕ) (args : List Ground) (o : Outcome Ref Ref) (y : Reaction) → outcome g s (Develop n r args) ≡ o → choose_on g s (Develop n r args) o ≡ Did y → IsDoneAt y.site n r args
+done_by : (g : Grammar) (s : Site) (n : Node) (r : ℕ) (args : List Ground) (o : Outcome Ref Ref) (y : Reaction) → outcome g s (Develop n r args) ≡ o →
+    choose_on g s (Develop n r args) o ≡ Did y → IsDoneAt y.site n r args
 done_by g s n r args (Refused a) y e d = absurd cc
 done_by g s n r args Starts y e d = absurd cc
 done_by g s n r args (Takes rule bound) y e d =
     let (h, found) = held_there (held_of n s.held) g s.equations n r args rule bound e in
     let (m, same) = held_of-found n s.held h found in
     let is = marked h n (Done r args) same in
-    subst (λ (y : Reaction). IsDoneAt y.site n r args) (did-inj d)
-    (mark n (Done r args) h, Member-all_held (mark n (Done r args) h) (calls_in g s.role (made n r rule args bound).calls) (map (mark n (Done r args)) s.held) (inr (member_map (mark n (Done r args)) h s.held m)), ap (λ (h : Held). h.node) is ∙ same, ap (λ (h : Held). h.state) is)
+    subst (λ (y : Reaction). IsDoneAt y.site n r args) (did-inj d) (
+      mark n (Done r args) h,
+      Member-all_held (mark n (Done r args) h) (calls_in g s.role (made n r rule args bound).calls)
+          (map (mark n (Done r args)) s.held) (inr (member_map (mark n (Done r args)) h s.held m)),
+      ap (λ (h : Held). h.node) is ∙ same,
+      ap (λ (h : Held). h.state) is,
+    )
 
 module _ (words : Words) (g : Grammar) (accepted : IsAccepted words g) (loads : Bool) where
   -- each node on which a choice was taken is held at its home, and developed
@@ -66,7 +72,8 @@ module _ (words : Words) (g : Grammar) (accepted : IsAccepted words g) (loads : 
         let a = home g n in
         let low = homes_law words g accepted (Develop n r args) k in
         let l : a < length v.sites = omega (arith, low, W.size) in
-        let is : site_at (step g v (Chooses (Develop n r args))).world a ≡ y.site = ap (λ o. site_at (chosen_at v a (Develop n r args) o).world a) e ∙ get-set (empty_site false a) v.sites a y.site l in
+        let is : site_at (step g v (Chooses (Develop n r args))).world a ≡ y.site = ap (λ o. site_at (chosen_at v a (Develop n r args) o).world a) e
+        ∙ get-set (empty_site false a) v.sites a y.site l in
         subst (λ (s : Site). IsDoneAt s n r args) (sym is) (done_by g (site_at v a) n r args (outcome g (site_at v a) (Develop n r args)) y refl e)
 
     chose_done : AreDone v → (c : Choice) → MayCome g (Chooses c) → AreDone (step g v (Chooses c)).world
@@ -81,7 +88,8 @@ module _ (words : Words) (g : Grammar) (accepted : IsAccepted words g) (loads : 
         go (Did y) e i = elim (member_split (Develop n r args) v.taken (c ∷ []) i) [
           | inl j ↦ old j
           | inr j ↦ elim j [
-            | inl p ↦ subst (λ c. MayCome g (Chooses c) → choose g (site_at v (home g (node_of c))) c ≡ Did y → IsDoneAt (site_at (step g v (Chooses c)).world (home g n)) n r args) p (λ k e. fresh n r args k y e) k e
+            | inl p ↦ subst (λ c. MayCome g (Chooses c) → choose g (site_at v (home g (node_of c))) c ≡ Did y →
+                IsDoneAt (site_at (step g v (Chooses c)).world (home g n)) n r args) p (λ k e. fresh n r args k y e) k e
             | inr z ↦ never z
           ]
         ]

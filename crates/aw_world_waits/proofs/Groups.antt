@@ -24,7 +24,8 @@ none_in_front n (r ∷ rest) (i ∷ later) e f = go (node_eq r.node n) refl
     go false same = refl
 
 -- those of the node, and then the others
-pub split : (n : Node) (own later : List plain.Item) (rest : List Item) → map item_of rest ≡ own ++ later → ((i : plain.Item) → Member i own → i.node ≡ n) → ((i : plain.Item) → Member i later → i.node ≡ n → Never)
+pub split : (n : Node) (own later : List plain.Item) (rest : List Item) → map item_of rest ≡ own ++ later →
+    ((i : plain.Item) → Member i own → i.node ≡ n) → ((i : plain.Item) → Member i later → i.node ≡ n → Never)
     → (map item_of (take (front n rest) rest) ≡ own) × (map item_of (drop (front n rest) rest) ≡ later)
 split n [] later rest e here there =
     let none = none_in_front n rest later e there in

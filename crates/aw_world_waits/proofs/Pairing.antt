@@ -21,13 +21,15 @@ use Rattle.aw_world_waits.specs.Blocks.{pair_on, pairs_of, pairs_with}
 
 -- ---- items
 
-item_cases : (b : Bool) (k : Map) (h : Held) (i : ℕ) (rule : Rule) (items : List Item) (x : Item) → Member x (cond b (site_item k h i rule ∷ items) items) → ((b ≡ true) × (x ≡ site_item k h i rule)) ⊎ Member x items
+item_cases : (b : Bool) (k : Map) (h : Held) (i : ℕ) (rule : Rule) (items : List Item) (x : Item) →
+    Member x (cond b (site_item k h i rule ∷ items) items) → ((b ≡ true) × (x ≡ site_item k h i rule)) ⊎ Member x items
 item_cases true k h i rule items x (inl p) = inl (refl, p)
 item_cases true k h i rule items x (inr m) = inr m
 item_cases false k h i rule items x m = inr m
 
 -- an item of a node is that of a rule of its sort
-pub of_rule : (k : Map) (h : Held) (i : ℕ) (rules : List Rule) (x : Item) → Member x (site_items k h i rules) → (rule : Rule) × (n : ℕ) × Member rule rules × (nat_eq rule.sort h.sort ≡ true) × (x ≡ site_item k h n rule)
+pub of_rule : (k : Map) (h : Held) (i : ℕ) (rules : List Rule) (x : Item) → Member x (site_items k h i rules) → (rule : Rule) × (n : ℕ)
+    × Member rule rules × (nat_eq rule.sort h.sort ≡ true) × (x ≡ site_item k h n rule)
 of_rule k h i [] x m = never m
 of_rule k h i (rule ∷ rules) x m = elim (item_cases (nat_eq rule.sort h.sort) k h i rule (site_items k h (suc i) rules) x m) [
   | inl p ↦ (rule, i, inl refl, p.0, p.1)
@@ -35,7 +37,8 @@ of_rule k h i (rule ∷ rules) x m = elim (item_cases (nat_eq rule.sort h.sort) 
 ]
 
 -- and the node is open
-pub of_open : (g : Grammar) (s : State) (k : Map) (h : Held) (x : Item) → Member x (open_items g s k h) → (s ≡ Pending) × (rule : Rule) × (n : ℕ) × Member rule g.rules × (nat_eq rule.sort h.sort ≡ true) × (x ≡ site_item k h n rule)
+pub of_open : (g : Grammar) (s : State) (k : Map) (h : Held) (x : Item) → Member x (open_items g s k h) → (s ≡ Pending) × (rule : Rule) × (n : ℕ)
+    × Member rule g.rules × (nat_eq rule.sort h.sort ≡ true) × (x ≡ site_item k h n rule)
 of_open g Pending k h x m = let (r, n, mr, s, e) = of_rule k h 0 g.rules x m in (refl, r, n, mr, s, e)
 of_open g (Done r args) k h x m = never m
 
@@ -51,7 +54,8 @@ of_worklist g k (h ∷ hs) x m = elim (member_split x (open_items g h.state k h)
 ]
 
 -- the same of the items of all sites
-pub of_own_items : (g : Grammar) (w : World) (hs : List Held) (x : Item) → Member x (own_items g w hs) → (h : Held) × Member h hs × Member x (open_items g h.state (site_at w (home g h.node)).equations h)
+pub of_own_items : (g : Grammar) (w : World) (hs : List Held) (x : Item) → Member x (own_items g w hs) → (h : Held) × Member h hs
+    × Member x (open_items g h.state (site_at w (home g h.node)).equations h)
 of_own_items g w [] x m = never m
 of_own_items g w (h ∷ hs) x m = elim (member_split x (open_items g h.state (site_at w (home g h.node)).equations h) (own_items g w hs) m) [
   | inl o ↦ (h, inl refl, o)
@@ -62,7 +66,8 @@ of_own_items g w (h ∷ hs) x m = elim (member_split x (open_items g h.state (si
 
 pub pairs_append : (cs : List Choice) (xs ys : List Item) → pairs_of cs (xs ++ ys) ≡ pairs_of cs xs ++ pairs_of cs ys
 pairs_append cs [] ys = refl
-pairs_append cs (x ∷ xs) ys = ap (λ z. pair_on cs x.node (waits_on x.refusal) ++ z) (pairs_append cs xs ys) ∙ sym (append_assoc (pair_on cs x.node (waits_on x.refusal)) (pairs_of cs xs) (pairs_of cs ys))
+pairs_append cs (x ∷ xs) ys = ap (λ z. pair_on cs x.node (waits_on x.refusal) ++ z) (pairs_append cs xs ys)
+    ∙ sym (append_assoc (pair_on cs x.node (waits_on x.refusal)) (pairs_of cs xs) (pairs_of cs ys))
 
 -- of items of one node the pairs are those of the node with each for which one waits
 pub pairs_one : (cs : List Choice) (n : Node) (xs : List Item) → ((x : Item) → Member x xs → x.node ≡ n) → pairs_of cs xs ≡ pairs_with cs n (waited_in xs)

@@ -21,7 +21,8 @@ pub not_held : (g : Grammar) (n : Node) (hs : List Held) → place_in n hs ≡ N
 not_held g n [] e = refl
 not_held g n (h ∷ hs) e = go (node_eq n h.node) (place_in n hs) e (not_held g n hs)
   where
-    go : (b : Bool) (o : Option ℕ) → cond b (Some 0) (option_map suc o) ≡ None → (o ≡ None → false ≡ holds_done n (all_of g hs)) → false ≡ cond b (is_done (state_of h.done)) (holds_done n (all_of g hs))
+    go : (b : Bool) (o : Option ℕ) → cond b (Some 0) (option_map suc o) ≡ None → (o ≡ None → false ≡ holds_done n (all_of g hs)) →
+        false ≡ cond b (is_done (state_of h.done)) (holds_done n (all_of g hs))
     go true o i f = absurd cc
     go false None i f = f refl
     go false (Some at) i f = absurd cc

@@ -44,7 +44,8 @@ like-waits k (Circle r) m' s l e = absurd cc
 
 module _ (g : Grammar) (cs : List Choice) (w : Joint) (c : Config) (e' : undivided g [] cs ≡ Some c) where
   -- a result of a node on which none was taken has no equation
-  no_equation : (m : Node) (l : ℕ) → IsUntaken cs m → ((x : Ref) (b : Body) → find w.equations x ≡ Some b → (p : Row) × Member p c × (x.node ≡ p.node) × (p.state ≡ Pending → Never)) → find w.equations (result m l) ≡ None
+  no_equation : (m : Node) (l : ℕ) → IsUntaken cs m → ((x : Ref) (b : Body) → find w.equations x ≡ Some b → (p : Row) × Member p c × (x.node ≡ p.node)
+      × (p.state ≡ Pending → Never)) → find w.equations (result m l) ≡ None
   no_equation m l none lefts = by_find (find w.equations (result m l)) refl
     where
       by_find : (o : Option Body) → find w.equations (result m l) ≡ o → find w.equations (result m l) ≡ None
@@ -59,7 +60,8 @@ module _ (g : Grammar) (cs : List Choice) (w : Joint) (c : Config) (e' : undivid
     waits_there k sub h mh open_ r mr sort m l none e =
         let (q, mq, A) = beside (λ h q. Agree w.equations h q) w.held c h J.pairs mh in
         let f = guard_all-waits k w.equations sub (result m l) (no_equation m l none J.lefts) 1 r.patterns h.inherited e in
-        let x = like-waits w.equations (guard_all w.equations 1 r.patterns h.inherited) (match_all 1 r.patterns q.inherited) (result m l) (guard_all-match w.equations 1 r.patterns h.inherited q.inherited A.inherited) f in
+        let x = like-waits w.equations (guard_all w.equations 1 r.patterns h.inherited) (match_all 1 r.patterns q.inherited) (result m l)
+        (guard_all-match w.equations 1 r.patterns h.inherited q.inherited A.inherited) f in
         let (i, p, t, a, b, lo, st) = match_all-waits r.patterns q.inherited 1 (result m l) x in
         let (y, j, my, sy, ey, low, le) = J.good.1.whole q mq (result m l) (inl (t, member_got q.inherited i t b, st)) in
         ((y, my, sy, sym (ap (λ (x : Ref). x.node) ey)), q, l, mq, sym A.state ∙ open_, sym A.node, (r, mr, sort ∙ A.sort, x))
@@ -73,7 +75,8 @@ waits_there_too words g accepted cs w c run e k sub h mh open_ r mr sort m l non
     let J = both (joint_run g empty_joint cs) (undivided g [] cs) fit enter run e all in
     waits_there g cs w c e fit enter accepted.1 J k sub h mh open_ r mr sort m l none x
   where
-    both : (o : Option Joint) (o' : Option Config) (fit : IsGivenGrammar g) (enter : VariablesEnter g) → o ≡ Some w → o' ≡ Some c → LikeStates g fit enter accepted.1 o o' → Lockstep g fit enter accepted.1 w c
+    both : (o : Option Joint) (o' : Option Config) (fit : IsGivenGrammar g) (enter : VariablesEnter g) → o ≡ Some w → o' ≡ Some c →
+        LikeStates g fit enter accepted.1 o o' → Lockstep g fit enter accepted.1 w c
     both None o' fit enter f f' a = absurd cc
     both (Some v) None fit enter f f' a = absurd cc
     both (Some v) (Some d) fit enter f f' a = subst (λ d. Lockstep g fit enter accepted.1 w d) (same_Some d c f') (subst (λ v. Lockstep g fit enter accepted.1 v d) (same_Some v w f) a)

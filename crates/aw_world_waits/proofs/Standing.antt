@@ -76,7 +76,8 @@ module _ (words : Words) (g : Grammar) (accepted : IsAccepted words g) where
       let k = (site_at w (home g h.node)).equations in
       let (open_, rule, j, mr, sort, is) = of_open g h.state k h i mo in
       let (l, stops) = guard_waits h.node rule (guard_all k 1 rule.patterns h.inherited) m (subst (λ (i : Item). waits_on i.refusal ≡ Some m) is waits) in
-      let there = waits_there_too words g accepted w.taken x c I.taken e k (I.known (home g h.node)) h (I.held a h own).0 open_ rule mr (eqb-true rule.sort h.sort sort) m l (untaken w.taken m none) stops in
+      let there = waits_there_too words g accepted w.taken x c I.taken e k (I.known (home g h.node)) h (I.held a h own).0 open_ rule mr
+      (eqb-true rule.sort h.sort sort) m l (untaken w.taken m none) stops in
       subst (λ n. WaitsFor g c n m) (sym (same ∙ ap (λ (i : Item). i.node) is)) there
 
   pub no_circle_told : NoCircleIsTold g

@@ -46,7 +46,8 @@ module _ (g : Grammar) (has : Choice → Type 0) where
 
   taken_told : (c : Config) (x : Choice) (o : Outcome _ _) (d : Config) → AllTold has c → has x → taken g c x o ≡ Some d → AllTold has d
   taken_told c x (Refused a) d told h t = absurd cc
-  taken_told c (Start s k) Starts d told h t = subst (AllTold has) (same_Some _ _ t) (λ y m. elim (Member-insert_row y (start_row g s k) c m) [ inl a ↦ inl (ap (λ (q : Row). q.state) a) | inr a ↦ told y a ])
+  taken_told c (Start s k) Starts d told h t = subst (AllTold has) (same_Some _ _ t) (λ y m. elim (Member-insert_row y (start_row g s k) c m)
+      [ inl a ↦ inl (ap (λ (q : Row). q.state) a) | inr a ↦ told y a ])
   taken_told c (Start s k) (Takes rule bs) d told h t = absurd cc
   taken_told c (Develop n ri args) Starts d told h t = absurd cc
   taken_told c (Develop n ri args) (Takes rule bs) d told h t = subst (AllTold has) (same_Some _ _ t) (developed_told n ri rule bs args c told h)

@@ -37,7 +37,8 @@ differs g h later each q m e =
 
 module _ (g : Grammar) (k : Map) (nodes : List Held) (up : IsInOrder nodes) (i : ℕ) (h : Held) (here : drop i nodes ≡ h ∷ drop (i + 1) nodes) (rest : List Item)
     (left : map item_of rest ≡ site_worklist g k (all_of g (drop i nodes))) where
-  parts : (map item_of (take (front h.node rest) rest) ≡ open_items g (state_of h.done) k (held_of g h)) × (map item_of (drop (front h.node rest) rest) ≡ site_worklist g k (all_of g (drop (i + 1) nodes)))
+  parts : (map item_of (take (front h.node rest) rest) ≡ open_items g (state_of h.done) k (held_of g h))
+      × (map item_of (drop (front h.node rest) rest) ≡ site_worklist g k (all_of g (drop (i + 1) nodes)))
   parts =
       let later = drop (i + 1) nodes in
       let ups : Up (h ∷ later) = subst Up here (up_drop i nodes (up_of nodes up)) in
@@ -49,7 +50,8 @@ module _ (g : Grammar) (k : Map) (nodes : List Held) (up : IsInOrder nodes) (i :
   pub left_behind : (n : ℕ) (behind : List Item) → n ≡ front h.node rest → behind ≡ drop n rest → map item_of behind ≡ site_worklist g k (all_of g (drop (i + 1) nodes))
   left_behind n behind e is = ap (map item_of) is ∙ ap (λ n. map item_of (drop n rest)) e ∙ parts.1
 
-  pub made_more : (n : ℕ) (own : List Item) (w : Waiter) (old new whole : List Waiter) → n ≡ front h.node rest → own ≡ take n rest → w ≡ record { node = h.node; on = waited_in (map item_of own) } → new ≡ old ++ w ∷ []
+  pub made_more : (n : ℕ) (own : List Item) (w : Waiter) (old new whole : List Waiter) → n ≡ front h.node rest → own ≡ take n rest →
+      w ≡ record { node = h.node; on = waited_in (map item_of own) } → new ≡ old ++ w ∷ []
       → old ++ map (waiter_at g k) (all_of g (drop i nodes)) ≡ whole → new ++ map (waiter_at g k) (all_of g (drop (i + 1) nodes)) ≡ whole
   made_more n own w old new whole e is made more so =
       let items : map item_of own ≡ open_items g (state_of h.done) k (held_of g h) = ap (map item_of) is ∙ ap (λ n. map item_of (take n rest)) e ∙ parts.0 in

@@ -100,7 +100,8 @@ module _ {W : Type 0} (f : Ghosts W) (w : World W f) where
     held_there v role x shown same = hold x (site_at v role) shown ∙ ap (λ g. all_of g (f.its_nodes x)) same
 
     -- a choice was taken on a node where its home holds it as developed
-    pub developed_there : (n : Node) (x : W) → ((v : V.World) → Shows f w v → f.shows x (site_at v (home p n))) → f.its_grammar x ≡ p → holds_done n (all_of p (f.its_nodes x)) ≡ is_developed (map choice_of w.taken.items) n
+    pub developed_there : (n : Node) (x : W) → ((v : V.World) → Shows f w v → f.shows x (site_at v (home p n))) → f.its_grammar x ≡ p →
+        holds_done n (all_of p (f.its_nodes x)) ≡ is_developed (map choice_of w.taken.items) n
     developed_there n x shown same = by_events _ (Bool-set _ _) (λ words a es may S.
         let v = world_after p w.loads es in
         ap (holds_done n) (sym (held_there v (home p n) x (shown v S) same)) ∙ sym (developed_is_done words p a w.loads es may n) ∙ ap (λ cs. is_developed cs n) S.taken)
@@ -115,10 +116,12 @@ module _ {W : Type 0} (f : Ghosts W) (w : World W f) where
         let none : drop i (gather v.sites) ≡ [] = drop_all i (gather v.sites) (omega (arith, l, n)) in
         sym (append-nil ps) ∙ ap (λ hs. ps ++ pairs_of v.taken (own_items p v hs)) (sym none) ∙ so
 
-    module _ (spots : List Spot) (order : AreAllInOrder f w.sites.items spots) (all : List (List Waiter)) (every : (v : V.World) → Shows f w v → all ≡ map (waiters_at p v) (upto 0 p.roles)) (i : ℕ) (s : Spot)
+    module _ (spots : List Spot) (order : AreAllInOrder f w.sites.items spots) (all : List (List Waiter)) (every : (v : V.World) → Shows f w v →
+        all ≡ map (waiters_at p v) (upto 0 p.roles)) (i : ℕ) (s : Spot)
         (is : slice_get spots i ≡ Some s) where
       -- the node that stands at a place
-      stands : (v : V.World) → Shows f w v → (h : P.Held) × (slice_get (gather v.sites) i ≡ Some h) × (home p h.node ≡ s.site) × (s.site < p.roles) × (slice_get (site_at v s.site).held s.place ≡ Some h)
+      stands : (v : V.World) → Shows f w v → (h : P.Held) × (slice_get (gather v.sites) i ≡ Some h) × (home p h.node ≡ s.site) × (s.site < p.roles)
+          × (slice_get (site_at v s.site).held s.place ≡ Some h)
       stands v S =
           let ws = w.sites.items in
           let (h, e, k) = told_here (held_at f ws) spots (merged (nodes_of f ws)) i s order is in
@@ -131,8 +134,14 @@ module _ {W : Type 0} (f : Ghosts W) (w : World W f) where
           let held : (site_at v s.site).held ≡ all_of p (f.its_nodes x) =
           ap (λ (t : Site). t.held) mine ∙ hold x t shows ∙ ap (λ z. all_of z (f.its_nodes x)) (grammars_are_one (f.its_grammar x) p (w.placed.grammar s.site x at)) in
           let l = slice_get_within ws s.site x at in
-          let n = w.placed.count in
-          (held_of p h, here, homes s.site s.place x h at place, omega (arith, l, n), ap (λ hs. slice_get hs s.place) held ∙ slice_get-map (held_of p) (f.its_nodes x) s.place ∙ ap (option_map (held_of p)) place)
+          let n = w.placed.count in (
+            held_of p h,
+            here,
+            homes s.site s.place x h at place,
+            omega (arith, l, n),
+            ap (λ hs. slice_get hs s.place) held ∙ slice_get-map (held_of p)
+                (f.its_nodes x) s.place ∙ ap (option_map (held_of p)) place,
+          )
 
       row_there : (v : V.World) → Shows f w v → slice_get all s.site ≡ Some (waiters_at p v s.site)
       row_there v S =
@@ -155,14 +164,17 @@ module _ {W : Type 0} (f : Ghosts W) (w : World W f) where
           omega (arith, n, m, k))
 
       -- its pairs are those of its items, and those of the later nodes are left
-      pub pairs_more : (row : List Waiter) (x : Waiter) → slice_get all s.site ≡ Some row → slice_get row s.place ≡ Some x → (old new : List Pair) → new ≡ old ++ pairs_with (map choice_of w.taken.items) x.node x.on
-          → (v : V.World) → Shows f w v → old ++ pairs_of v.taken (own_items p v (drop i (gather v.sites))) ≡ waiting p v → new ++ pairs_of v.taken (own_items p v (drop (i + 1) (gather v.sites))) ≡ waiting p v
+      pub pairs_more : (row : List Waiter) (x : Waiter) → slice_get all s.site ≡ Some row → slice_get row s.place ≡ Some x → (old new : List Pair) →
+          new ≡ old ++ pairs_with (map choice_of w.taken.items) x.node x.on
+          → (v : V.World) → Shows f w v → old ++ pairs_of v.taken (own_items p v (drop i (gather v.sites))) ≡ waiting p v → new ++ pairs_of v.taken
+          (own_items p v (drop (i + 1) (gather v.sites))) ≡ waiting p v
       pairs_more row x got at old new more v S so =
           let (h, here, at_home, l, place) = stands v S in
           let later = drop (i + 1) (gather v.sites) in
           let same : waiters_at p v s.site ≡ row = same_Some _ _ (sym (row_there v S) ∙ got) in
           let k = (site_at v s.site).equations in
-          let own : waiter_at p k h ≡ x = same_Some _ _ (sym (ap (option_map (waiter_at p k)) place) ∙ sym (slice_get-map (waiter_at p k) (site_at v s.site).held s.place) ∙ ap (λ xs. slice_get xs s.place) same ∙ at) in
+          let own : waiter_at p k h ≡ x = same_Some _ _ (sym (ap (option_map (waiter_at p k)) place)
+          ∙ sym (slice_get-map (waiter_at p k) (site_at v s.site).held s.place) ∙ ap (λ xs. slice_get xs s.place) same ∙ at) in
           let items = open_items p h.state (site_at v (home p h.node)).equations h in
           let ours : pairs_with (map choice_of w.taken.items) x.node x.on ≡ pairs_of v.taken items =
           (λ t. pairs_with ((sym S.taken) t) ((sym own) t).node ((sym own) t).on)

@@ -17,7 +17,13 @@ bounds-nodes-i c = within_nodes c.args.node.now c.args.rule (length c.args.child
 
 pub lay_terms-requires : goal.lay_terms-requires
 lay_terms-requires c =
-    omega (arith, c.loop-i.invariant.1 [], child_more [] c.args.children.now c.loop-i.i c.index-children-i.result c.loop-i-test.true c.index-children-i.is, ap (λ ts. symbols_of (map term_of ts)) (c.as_slice-args.ensures ∙ ap (λ (z : Child). z.args) (sym c.index-children-i.is)))
+    omega (
+      arith,
+      c.loop-i.invariant.1 [],
+      child_more [] c.args.children.now c.loop-i.i c.index-children-i.result c.loop-i-test.true
+          c.index-children-i.is,
+      ap (λ ts. symbols_of (map term_of ts)) (c.as_slice-args.ensures ∙ ap (λ (z : Child). z.args) (sym c.index-children-i.is)),
+    )
 
 pub loop-i-preserved : goal.loop-i-preserved
 loop-i-preserved c =

@@ -12,5 +12,7 @@ use Rattle.aw_apply.proofs.children.lay_children.Given as goal
 abbrev pub invariant-loop-i : goal.invariant-loop-i
 invariant-loop-i l =
     let f = get (no_ref l.node) l.refs in
-    ((sorts : List Sort) → joined (called_of (map equation_of l.equations.items) l.called) (as_children (lay_children l.node l.rule f (l.i + 1) l.called.next (map (child_of sorts) (drop l.i l.children)))) ≡ laid_behind (map equation_of l.fn.equations.items) (as_children (lay_children l.node l.rule f 1 l.k (map (child_of sorts) l.children))))
+    ((sorts : List Sort) → joined (called_of (map equation_of l.equations.items) l.called)
+    (as_children (lay_children l.node l.rule f (l.i + 1) l.called.next (map (child_of sorts) (drop l.i l.children)))) ≡ laid_behind
+    (map equation_of l.fn.equations.items) (as_children (lay_children l.node l.rule f 1 l.k (map (child_of sorts) l.children))))
     × ((sorts : List Sort) → l.called.next + child_symbols (map (child_of sorts) (drop l.i l.children)) ≤ 65535)

@@ -13,10 +13,12 @@ use Rattle.aw_apply.proofs.guard.guard_all.Goals.{After-guard_at}
 
 -- what this attribute gives, and then the others, is the whole
 followed : (g : Over) (c : After-guard_at g) (rs : List Ref) (x : Step) → AreNamed (g.F.Facts.names c.args.f.now) c.args.inherited.now rs → c.guard_at.result ≡ x →
-    and_then (under (c.loop-i.i + 1) (step_of (g.F.Facts.names c.args.f.now) c.guard_at.new.bound x)) (as_named (all_from (g.F.Facts.map c.args.f.now) (suc (c.loop-i.i + 1)) (c.loop-i.i + 1) c.args.patterns.now rs))
+    and_then (under (c.loop-i.i + 1) (step_of (g.F.Facts.names c.args.f.now) c.guard_at.new.bound x))
+    (as_named (all_from (g.F.Facts.map c.args.f.now) (suc (c.loop-i.i + 1)) (c.loop-i.i + 1) c.args.patterns.now rs))
     ≡ as_named (guard_all (g.F.Facts.map c.args.f.now) 1 (map pattern_of c.args.patterns.now) rs)
 followed g c rs x named is =
-    one_attribute (g.F.Facts.map c.args.f.now) (g.F.Facts.names c.args.f.now) _ (c.loop-i.i + 1) c.loop-i.i c.args.patterns.now c.args.inherited.now rs c.index-patterns-i.result c.loop-i.bound c.guard_at.new.bound x _ _
+    one_attribute (g.F.Facts.map c.args.f.now) (g.F.Facts.names c.args.f.now) _ (c.loop-i.i + 1) c.loop-i.i c.args.patterns.now c.args.inherited.now
+    rs c.index-patterns-i.result c.loop-i.bound c.guard_at.new.bound x _ _
     c.requires.same c.loop-i-test.true c.index-patterns-i.is named c.new.ensures.steps is c.guard_at.ensures.step (c.loop-i.invariant.0 rs named)
 
 pub returns-in-Waits : goal.returns-in-Waits

@@ -13,5 +13,6 @@ abbrev pub invariant-loop-i : goal.invariant-loop-i
 invariant-loop-i g l =
     let k = g.F.Facts.map l.f in
     let names = g.F.Facts.names l.f in
-    ((rs : List Ref) → AreNamed names l.inherited rs → and_then (Yes (names_at names l.bound)) (as_named (all_from k (l.i + 1) l.i l.patterns rs)) ≡ as_named (guard_all k 1 (map pattern_of l.patterns) rs))
+    ((rs : List Ref) → AreNamed names l.inherited rs → and_then (Yes (names_at names l.bound))
+    (as_named (all_from k (l.i + 1) l.i l.patterns rs)) ≡ as_named (guard_all k 1 (map pattern_of l.patterns) rs))
     × (length l.bound + length (all_leaves (join (map pattern_of (drop l.i l.patterns)))) ≤ 64)

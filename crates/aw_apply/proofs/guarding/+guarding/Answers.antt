@@ -44,7 +44,8 @@ guard_con-guard_parts-requires g t c κs within =
     let names = g.F.Facts.names c.args.f.now in
     let ps = c.args.parts.now in
     let (r, f) = name_at names c.args.slot c.requires.live in
-    let w = end_goes k names c.args.slot c.in-Found.end [] [] _ (guard_parts k 1 (join (map pattern_of ps))) (Con c.args.con) (length ps) r (c.in-Found.ensures r f) (sym c.is_con.ensures ∙ c.if-is_con.true) in
+    let w = end_goes k names c.args.slot c.in-Found.end [] [] _ (guard_parts k 1 (join (map pattern_of ps))) (Con c.args.con) (length ps) r
+    (c.in-Found.ensures r f) (sym c.is_con.ensures ∙ c.if-is_con.true) in
     let few = leb-true _ most_parts (found_small names k c.in-Found.end _ (g.met.F.Facts.few c.args.f.now) w.1) in
     (omega (arith, c.decreases), (within, (w.2 ∙ sym (ap (λ o. length (con_parts o)) w.1), (omega (arith, few, w.2), (c.requires.shallow, c.requires.room)))))
 

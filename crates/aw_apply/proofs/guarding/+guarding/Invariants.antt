@@ -14,7 +14,8 @@ invariant-guard_parts-loop-i g l =
     let k = g.F.Facts.map l.f in
     let names = g.F.Facts.names l.f in
     let rs = parts_at k names l.slot in
-    (and_then (Yes (names_at names l.bound)) (behind (path_of l.at) (as_named (from k (l.i + 1) l.i l.parts rs))) ≡ and_then (Yes (names_at names l.fn.bound)) (behind (path_of l.at) (as_named (from k 1 0 l.parts rs))))
+    (and_then (Yes (names_at names l.bound)) (behind (path_of l.at) (as_named (from k (l.i + 1) l.i l.parts rs))) ≡ and_then
+    (Yes (names_at names l.fn.bound)) (behind (path_of l.at) (as_named (from k 1 0 l.parts rs))))
     × (length l.bound + length (all_leaves (join (map pattern_of (drop l.i l.parts)))) ≤ length l.fn.bound + length (all_leaves (join (map pattern_of l.parts))))
 
 abbrev pub decreases-guard_at : goal.decreases-guard_at

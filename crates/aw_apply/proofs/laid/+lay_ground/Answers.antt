@@ -19,7 +19,8 @@ lay_ground-returns-in-Text t c =
 
 pub lay_ground-lay_grounds-requires : goal.lay_ground-lay_grounds-requires
 lay_ground-lay_grounds-requires t c =
-    let e = symbols_over (Con c.in-Con.c) (map ground_of c.as_slice.result.now) _ (ground_term c.as_slice.result.now _ _ _ c.as_slice.ensures c.in-Con.is) in (omega (arith, c.decreases, e), omega (arith, c.requires, e))
+    let e = symbols_over (Con c.in-Con.c) (map ground_of c.as_slice.result.now) _ (ground_term c.as_slice.result.now _ _ _ c.as_slice.ensures
+    c.in-Con.is) in (omega (arith, c.decreases, e), omega (arith, c.requires, e))
 
 pub lay_ground-returns-in_ok-inner-in-Con : goal.lay_ground-returns-in_ok-inner-in-Con
 lay_ground-returns-in_ok-inner-in-Con t c =
@@ -44,4 +45,5 @@ pub lay_grounds-loop-ground-preserved : goal.lay_grounds-loop-ground-preserved
 lay_grounds-loop-ground-preserved t c =
     let a = all_of (map equation_of c.loop-ground.equations.items) c.loop-ground.all in
     let b = all_of (map equation_of c.lay_ground.new.equations.items) c.lay_ground.new.all in
-    laid_more c.args.node.now (λ x. elim x [ ]) ground_of c.args.grounds.now c.loop-ground.ground-index c.ground-item.result a b _ _ 65535 c.loop-ground-test.true c.ground-item.is refl c.in_ok-lay_ground.ensures c.loop-ground.invariant
+    laid_more c.args.node.now (λ x. elim x [ ]) ground_of c.args.grounds.now c.loop-ground.ground-index c.ground-item.result a b _ _ 65535
+    c.loop-ground-test.true c.ground-item.is refl c.in_ok-lay_ground.ensures c.loop-ground.invariant

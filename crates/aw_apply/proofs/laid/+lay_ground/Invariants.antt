@@ -9,7 +9,9 @@ use Rattle.aw_apply.proofs.laid.+lay_ground.Given as goal
 
 abbrev pub invariant-lay_grounds-loop-ground : goal.invariant-lay_grounds-loop-ground
 invariant-lay_grounds-loop-ground l =
-    (joined (all_of (map equation_of l.equations.items) l.all) (lay_list l.node (λ x. elim x [ ]) l.all.next (map ground_of (drop l.ground-index l.grounds))) ≡ laid_behind (map equation_of l.fn.equations.items) (lay_list l.node (λ x. elim x [ ]) l.k (map ground_of l.grounds)))
+    (joined (all_of (map equation_of l.equations.items) l.all) (lay_list l.node (λ x. elim x [ ]) l.all.next
+    (map ground_of (drop l.ground-index l.grounds))) ≡ laid_behind (map equation_of l.fn.equations.items)
+    (lay_list l.node (λ x. elim x [ ]) l.k (map ground_of l.grounds)))
     × (l.all.next + symbols_of (map ground_of (drop l.ground-index l.grounds)) ≤ 65535)
 
 abbrev pub decreases-lay_ground : goal.decreases-lay_ground

@@ -14,7 +14,8 @@ lay_term-returns-in-Var t c =
     let n = c.args.node.now in
     let a = c.args.all.now in
     on_both c.add_variable.result
-    (leaf_laid n (get (no_ref n) c.args.refs.now) a.next c.in-Var.x (term_of c.args.term.now) (map equation_of c.args.equations.now.items) a.roots.items c.add_variable.new.all.roots.items c.add_variable.new.all.next (ap term_of c.in-Var.is))
+    (leaf_laid n (get (no_ref n) c.args.refs.now) a.next c.in-Var.x (term_of c.args.term.now) (map equation_of c.args.equations.now.items)
+    a.roots.items c.add_variable.new.all.roots.items c.add_variable.new.all.next (ap term_of c.in-Var.is))
     c.add_variable.ensures.roots c.add_variable.ensures.next
 
 pub lay_term-returns-in-Lit : goal.lay_term-returns-in-Lit
@@ -25,7 +26,8 @@ lay_term-returns-in-Lit t c =
 
 pub lay_term-lay_terms-requires : goal.lay_term-lay_terms-requires
 lay_term-lay_terms-requires t c =
-    let e = symbols_over (Con c.in-Con.c) (map term_of c.as_slice.result.now) _ (expr_term c.as_slice.result.now _ _ _ c.as_slice.ensures c.in-Con.is) in (omega (arith, c.decreases, e), omega (arith, c.requires, e))
+    let e = symbols_over (Con c.in-Con.c) (map term_of c.as_slice.result.now) _ (expr_term c.as_slice.result.now _ _ _ c.as_slice.ensures
+    c.in-Con.is) in (omega (arith, c.decreases, e), omega (arith, c.requires, e))
 
 pub lay_term-returns-in_ok-inner-in-Con : goal.lay_term-returns-in_ok-inner-in-Con
 lay_term-returns-in_ok-inner-in-Con t c =
@@ -52,4 +54,5 @@ lay_terms-loop-term-preserved t c =
     let n = c.args.node.now in
     let a = all_of (map equation_of c.loop-term.equations.items) c.loop-term.all in
     let b = all_of (map equation_of c.lay_term.new.equations.items) c.lay_term.new.all in
-    laid_more n (get (no_ref n) c.args.refs.now) term_of c.args.terms.now c.loop-term.term-index c.term-item.result a b _ _ 65535 c.loop-term-test.true c.term-item.is refl c.in_ok-lay_term.ensures c.loop-term.invariant
+    laid_more n (get (no_ref n) c.args.refs.now) term_of c.args.terms.now c.loop-term.term-index c.term-item.result a b _ _ 65535
+    c.loop-term-test.true c.term-item.is refl c.in_ok-lay_term.ensures c.loop-term.invariant

@@ -10,7 +10,9 @@ use Rattle.aw_apply.proofs.laid.+lay_term.Given as goal
 
 abbrev pub invariant-lay_terms-loop-term : goal.invariant-lay_terms-loop-term
 invariant-lay_terms-loop-term l =
-    (joined (all_of (map equation_of l.equations.items) l.all) (lay_list l.node (get (no_ref l.node) l.refs) l.all.next (map term_of (drop l.term-index l.terms))) ≡ laid_behind (map equation_of l.fn.equations.items) (lay_list l.node (get (no_ref l.node) l.refs) l.k (map term_of l.terms)))
+    (joined (all_of (map equation_of l.equations.items) l.all) (lay_list l.node (get (no_ref l.node) l.refs) l.all.next
+    (map term_of (drop l.term-index l.terms))) ≡ laid_behind (map equation_of l.fn.equations.items) (lay_list l.node (get (no_ref l.node) l.refs)
+    l.k (map term_of l.terms)))
     × (l.all.next + symbols_of (map term_of (drop l.term-index l.terms)) ≤ 65535)
 
 abbrev pub decreases-lay_term : goal.decreases-lay_term

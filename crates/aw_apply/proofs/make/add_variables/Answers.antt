@@ -11,5 +11,6 @@ returns c =
     let sorts = c.args.g.now.sorts in
     let more = child_refs n r 1 (rule_of sorts c.args.rule.now).children in
     on_given c.push_children_results.result
-    (λ e. e ∙ ap (λ cs. c.append.new.self.items ++ child_refs n r 1 (map (child_of sorts) cs)) c.as_slice-children.ensures ∙ ap (λ z. z ++ more) c.in_ok-append.ensures.items ∙ append_assoc c.args.refs.now.items c.args.entered.items more)
+    (λ e. e ∙ ap (λ cs. c.append.new.self.items ++ child_refs n r 1 (map (child_of sorts) cs)) c.as_slice-children.ensures
+    ∙ ap (λ z. z ++ more) c.in_ok-append.ensures.items ∙ append_assoc c.args.refs.now.items c.args.entered.items more)
     c.push_children_results.ensures

@@ -45,6 +45,9 @@ pub returns : goal.returns
 returns c =
     let sorts = c.args.g.now.sorts in
     let rule = c.args.rule.now in
-    made_all c.args.node.now c.args.number (rule_of sorts rule) (map ground_of c.args.args.now) c.args.equations.now.items c.enter.new.equations.items c.lay_children.new.equations.items c.lay_results.new.equations.items
-    c.args.refs.now.items c.enter.new.refs.items c.as_slice-known.result.now c.in_ok-next.next c.in_ok-called.called (map (child_of sorts) c.as_slice-declared.result.now) (map term_of c.as_slice.result.now)
-    c.in_ok-next.ensures c.as_slice-known.ensures.value (ap (map (child_of sorts)) c.as_slice-declared.ensures) (ap (map term_of) c.as_slice.ensures) (c.in_ok-called.ensures sorts) c.in_ok-lay_results.ensures
+    made_all c.args.node.now c.args.number (rule_of sorts rule) (map ground_of c.args.args.now) c.args.equations.now.items c.enter.new.equations.items
+    c.lay_children.new.equations.items c.lay_results.new.equations.items
+    c.args.refs.now.items c.enter.new.refs.items c.as_slice-known.result.now c.in_ok-next.next c.in_ok-called.called
+    (map (child_of sorts) c.as_slice-declared.result.now) (map term_of c.as_slice.result.now)
+    c.in_ok-next.ensures c.as_slice-known.ensures.value (ap (map (child_of sorts)) c.as_slice-declared.ensures) (ap (map term_of) c.as_slice.ensures)
+    (c.in_ok-called.ensures sorts) c.in_ok-lay_results.ensures

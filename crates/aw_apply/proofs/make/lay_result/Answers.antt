@@ -22,7 +22,8 @@ returns-in-Con-clause-equations c =
     let l = lay_list n f c.args.k (map term_of qs) in
     let old = map equation_of c.args.equations.now.items in
     on_given c.lay_con.result
-    (λ laid. laid ∙ ap (λ z. old ++ z) (result_equations n f c.args.k c.args.j (Con c.in-Con.c) c.in_ok-left.left (Is (Con c.in-Con.c) l.roots) (map term_of qs) l _ refl refl c.in_ok-left.ensures (expr_term qs _ _ _ c.as_slice.ensures c.in-Con.is)))
+    (λ laid. laid ∙ ap (λ z. old ++ z) (result_equations n f c.args.k c.args.j (Con c.in-Con.c) c.in_ok-left.left (Is (Con c.in-Con.c) l.roots)
+    (map term_of qs) l _ refl refl c.in_ok-left.ensures (expr_term qs _ _ _ c.as_slice.ensures c.in-Con.is)))
     c.lay_con.ensures.equations
 
 pub returns-in-Con-clause-next : goal.returns-in-Con-clause-next
@@ -30,5 +31,6 @@ returns-in-Con-clause-next c =
     let n = c.args.node.now in
     let f = get (no_ref n) c.args.refs.now in
     let qs = c.as_slice.result.now in
-    if_given c.lay_con.result (λ next is. is ∙ result_next n f c.args.k c.args.j (Con c.in-Con.c) (map term_of qs) (lay_list n f c.args.k (map term_of qs)) _ refl (expr_term qs _ _ _ c.as_slice.ensures c.in-Con.is))
+    if_given c.lay_con.result (λ next is. is ∙ result_next n f c.args.k c.args.j (Con c.in-Con.c) (map term_of qs)
+    (lay_list n f c.args.k (map term_of qs)) _ refl (expr_term qs _ _ _ c.as_slice.ensures c.in-Con.is))
     c.lay_con.ensures.next

@@ -18,6 +18,8 @@ loop-j-preserved c =
     let after = c.in_ok-next.next in
     let num : j + 1 + 1 ≡ suc (j + 1) = omega arith in (
       ap (λ m. map equation_of c.lay_result.new.equations.items ++ lay_results n f after m (map term_of (drop (j + 1) xs))) num
-          ∙ results_follow n f c.loop-j.next (j + 1) after xs j x (map equation_of c.loop-j.equations.items) (map equation_of c.lay_result.new.equations.items) _ _ lt c.index-results-j.is c.in_ok-next.ensures.equations refl c.in_ok-next.ensures.next c.loop-j.invariant.0,
+          ∙ results_follow n f c.loop-j.next (j + 1) after xs j x (map equation_of c.loop-j.equations.items)
+          (map equation_of c.lay_result.new.equations.items) _ _ lt c.index-results-j.is c.in_ok-next.ensures.equations refl
+          c.in_ok-next.ensures.next c.loop-j.invariant.0,
       omega (arith, c.loop-j.invariant.1, symbols_more term_of xs j x lt c.index-results-j.is, c.in_ok-next.ensures.next, lay_result-next n f c.loop-j.next (j + 1) (term_of x)),
     )

@@ -9,5 +9,6 @@ use Rattle.aw_apply.proofs.make.lay_results.Given as goal
 abbrev pub invariant-loop-j : goal.invariant-loop-j
 invariant-loop-j l =
     let f = get (no_ref l.node) l.refs in
-    (map equation_of l.equations.items ++ lay_results l.node f l.next (l.j + 1) (map term_of (drop l.j l.results)) ≡ map equation_of l.fn.equations.items ++ lay_results l.node f l.k 1 (map term_of l.results))
+    (map equation_of l.equations.items ++ lay_results l.node f l.next (l.j + 1) (map term_of (drop l.j l.results)) ≡ map equation_of
+    l.fn.equations.items ++ lay_results l.node f l.k 1 (map term_of l.results))
     × (l.next + symbols_of (map term_of (drop l.j l.results)) ≤ 65535)

@@ -26,7 +26,8 @@ left_after-returns-then-con_fits t c =
     c.left_after_all.ensures
     ∙ ap (λ ps. left_after_all a c.in_ok-levels.levels c.in_ok-left.left (map ground_of ps)) c.as_slice-then-con_fits.ensures
     ∙ ap (λ b. cond b rest None) (sym c.if-con_fits.true)
-    ∙ made_by ground_of parts a c.args.levels c.in_ok-levels.levels c.args.allowed c.in_ok-left.left c.in-Con.con c.len.result c.con_fits.result (omega arith) (omega arith) c.len.ensures c.con_fits.ensures
+    ∙ made_by ground_of parts a c.args.levels c.in_ok-levels.levels c.args.allowed c.in_ok-left.left c.in-Con.con c.len.result c.con_fits.result
+    (omega arith) (omega arith) c.len.ensures c.con_fits.ensures
     ∙ sym (ap (λ u. left_after a c.args.levels c.args.allowed (ground_of u)) c.in-Con.is ∙ ap (left_after a c.args.levels c.args.allowed) (ground_con c.in-Con.con parts))
 
 pub left_after-returns-else-con_fits : goal.left_after-returns-else-con_fits
@@ -35,5 +36,6 @@ left_after-returns-else-con_fits t c =
     let parts = c.in-Con.parts in
     let rest = left_after_all a c.in_ok-levels.levels c.in_ok-left.left (map ground_of parts) in
     ap (λ b. cond b rest None) (sym c.if-con_fits.false)
-    ∙ made_by ground_of parts a c.args.levels c.in_ok-levels.levels c.args.allowed c.in_ok-left.left c.in-Con.con c.len.result c.con_fits.result (omega arith) (omega arith) c.len.ensures c.con_fits.ensures
+    ∙ made_by ground_of parts a c.args.levels c.in_ok-levels.levels c.args.allowed c.in_ok-left.left c.in-Con.con c.len.result c.con_fits.result
+    (omega arith) (omega arith) c.len.ensures c.con_fits.ensures
     ∙ sym (ap (λ u. left_after a c.args.levels c.args.allowed (ground_of u)) c.in-Con.is ∙ ap (left_after a c.args.levels c.args.allowed) (ground_con c.in-Con.con parts))

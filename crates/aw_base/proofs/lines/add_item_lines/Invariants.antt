@@ -7,7 +7,8 @@ use Rattle.aw_base.proofs.lines.add_item_lines.Given as goal
 
 abbrev pub invariant-loop-item : goal.invariant-loop-item
 invariant-loop-item l = record {
-  added : l.text ++ item_lines (words_of l.initial.names.grammar.now) (map item_of (drop l.item-index l.items)) ≡ l.initial.text ++ item_lines (words_of l.initial.names.grammar.now) (map item_of l.items);
+  added : l.text ++ item_lines (words_of l.initial.names.grammar.now) (map item_of (drop l.item-index l.items)) ≡ l.initial.text ++ item_lines
+      (words_of l.initial.names.grammar.now) (map item_of l.items);
   grammar : l.names.grammar.now ≡ l.initial.names.grammar.now;
   kept : StartsWith l.text l.initial.text;
 }

@@ -16,8 +16,19 @@ events-preserved-in-Some g c =
           let e = event_of c.in-Some._event in
           let now = inv.only.same_bytes ∙ told in
           let found : IsBehind file (was.0 ++ e ∷ []) c.next.new.self = rw c.in-Some.is at c.in_ok-_event.ensures.next file was.0 now was.1 in
-          let long = length-append was.0 (e ∷ []) in
-          (was.0 ++ e ∷ [], found, omega (arith, was.2, long, c.saturating_add-count.ensures, few_events file (was.0 ++ e ∷ []) c.next.new.self found, found.place, (g.met.P.Pages.is_file _ file now).bounded));
+          let long = length-append was.0 (e ∷ []) in (
+            was.0 ++ e ∷ [],
+            found,
+            omega (
+              arith,
+              was.2,
+              long,
+              c.saturating_add-count.ensures,
+              few_events file (was.0 ++ e ∷ []) c.next.new.self found,
+              found.place,
+              (g.met.P.Pages.is_file _ file now).bounded,
+            ),
+          );
     }
 
 pub events-preserved-in-Some-2 : goal.events-preserved-in-Some-2
@@ -30,8 +41,19 @@ events-preserved-in-Some-2 g c =
           let e = event_of c.in-Some._event in
           let now = inv.only.same_bytes ∙ told in
           let found : IsBehind file (was.0 ++ e ∷ []) c.next.new.self = rw c.in-Some.is at c.in_ok-_event.ensures.next file was.0 now was.1 in
-          let long = length-append was.0 (e ∷ []) in
-          (was.0 ++ e ∷ [], found, omega (arith, was.2, long, c.saturating_add-count.ensures, few_events file (was.0 ++ e ∷ []) c.next.new.self found, found.place, (g.met.P.Pages.is_file _ file now).bounded));
+          let long = length-append was.0 (e ∷ []) in (
+            was.0 ++ e ∷ [],
+            found,
+            omega (
+              arith,
+              was.2,
+              long,
+              c.saturating_add-count.ensures,
+              few_events file (was.0 ++ e ∷ []) c.next.new.self found,
+              found.place,
+              (g.met.P.Pages.is_file _ file now).bounded,
+            ),
+          );
     }
 
 pub events-preserved : goal.events-preserved
@@ -44,6 +66,17 @@ events-preserved g c =
           let e = event_of c.in-Some._event in
           let now = inv.only.same_bytes ∙ told in
           let found : IsBehind file (was.0 ++ e ∷ []) c.next.new.self = rw c.in-Some.is at c.in_ok-_event.ensures.next file was.0 now was.1 in
-          let long = length-append was.0 (e ∷ []) in
-          (was.0 ++ e ∷ [], found, omega (arith, was.2, long, c.saturating_add-count.ensures, few_events file (was.0 ++ e ∷ []) c.next.new.self found, found.place, (g.met.P.Pages.is_file _ file now).bounded));
+          let long = length-append was.0 (e ∷ []) in (
+            was.0 ++ e ∷ [],
+            found,
+            omega (
+              arith,
+              was.2,
+              long,
+              c.saturating_add-count.ensures,
+              few_events file (was.0 ++ e ∷ []) c.next.new.self found,
+              found.place,
+              (g.met.P.Pages.is_file _ file now).bounded,
+            ),
+          );
     }

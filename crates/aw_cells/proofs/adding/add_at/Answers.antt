@@ -41,7 +41,8 @@ returns-then-is_full-clause-added c =
     let s = c.requires.table.sound in
     let d = c.requires.table.dense in
     let at = cell_at t.cells (length t.names.keys) c.args.slot _ d (slice_get_within _ _ _ c.requires.at) c.index-then-is_full.ensures in
-    let found = body_found t.names.keys (cells_of t) t.order.items c.args.slot c.args.e.left _ s c.requires.at at ∙ ap (λ n. body_from n c.index-then-is_full.result.now) (sym c.as_slice.ensures.keys) in
+    let found = body_found t.names.keys (cells_of t) t.order.items c.args.slot c.args.e.left _ s c.requires.at at
+    ∙ ap (λ n. body_from n c.index-then-is_full.result.now) (sym c.as_slice.ensures.keys) in
     adds_from c.compare.result (map_of t) c.args.e _ found c.compare.ensures.added
 
 pub returns-then-is_full-clause-sure : goal.returns-then-is_full-clause-sure

@@ -21,4 +21,5 @@ returns-in_ok-slots-in-Con-clause-ok c =
 pub returns-in_ok-slot-in-Same-clause-only : goal.returns-in_ok-slot-in-Same-clause-only
 returns-in_ok-slot-in-Same-clause-only c =
     let r = c.in-Same.r in
-    only_named c.name_one.result (names_of c.args.t.now) (names_of c.name_one.new.t) (mentions (body_of c.args.body.now)) r (ap (λ b. is_named (mentions (body_of b)) r) c.in-Same.is ∙ named_first r []) c.name_one.ensures.ok c.name_one.ensures.err
+    only_named c.name_one.result (names_of c.args.t.now) (names_of c.name_one.new.t) (mentions (body_of c.args.body.now)) r
+    (ap (λ b. is_named (mentions (body_of b)) r) c.in-Same.is ∙ named_first r []) c.name_one.ensures.ok c.name_one.ensures.err

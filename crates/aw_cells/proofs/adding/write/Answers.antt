@@ -20,7 +20,13 @@ index_mut-requires c =
 pub push_reserved-requires : goal.push_reserved-requires
 push_reserved-requires c =
     let t = c.args.t.now in
-    omega (arith, order-room (cells_of t) t.order.items c.args.slot c.requires.table.sound.counted c.requires.within c.requires.empty, t.order.ok.0, c.requires.table.room, c.requires.table.sound.as_many)
+    omega (
+      arith,
+      order-room (cells_of t) t.order.items c.args.slot c.requires.table.sound.counted c.requires.within c.requires.empty,
+      t.order.ok.0,
+      c.requires.table.room,
+      c.requires.table.sound.as_many,
+    )
 
 pub returns-clause-table : goal.returns-clause-table
 returns-clause-table c =
@@ -31,7 +37,9 @@ returns-clause-table c =
     let up = Updates-with_value t.cells c.args.slot c.args.stored (d c.args.slot l) in
     record {
       dense = dense-set t.cells (with_value t.cells c.args.slot c.args.stored) n c.args.slot c.args.stored up d;
-      sound = sound-same _ _ _ _ _ _ refl (row-set t.cells (with_value t.cells c.args.slot c.args.stored) n c.args.slot c.args.stored up d l) c.push_reserved.ensures.items (sound-written t.names.keys (cells_of t) t.order.items c.args.slot c.args.stored c.requires.table.sound c.requires.within c.requires.empty c.requires.fits c.requires.written);
+      sound = sound-same _ _ _ _ _ _ refl (row-set t.cells (with_value t.cells c.args.slot c.args.stored) n c.args.slot c.args.stored up d l)
+          c.push_reserved.ensures.items (sound-written t.names.keys (cells_of t) t.order.items c.args.slot c.args.stored c.requires.table.sound
+          c.requires.within c.requires.empty c.requires.fits c.requires.written);
       room = omega (arith, c.push_reserved.ensures.capacity, c.requires.table.room);
       numbered = c.requires.table.numbered;
     }

@@ -41,4 +41,5 @@ loop-r-preserved c =
 
 pub returns-in_err-name_one-clause-only : goal.returns-in_err-name_one-clause-only
 returns-in_err-name_one-clause-only c =
-    only_at c.name_one.result (names_of c.args.t.now) (names_of c.loop-r.t) (names_of c.name_one.new.t) c.args.refs.now c.loop-r.r-index c.r-item.result c.loop-r-test.true c.r-item.is c.loop-r.invariant.only c.name_one.ensures.ok c.name_one.ensures.err
+    only_at c.name_one.result (names_of c.args.t.now) (names_of c.loop-r.t) (names_of c.name_one.new.t) c.args.refs.now c.loop-r.r-index
+    c.r-item.result c.loop-r-test.true c.r-item.is c.loop-r.invariant.only c.name_one.ensures.ok c.name_one.ensures.err

@@ -7,4 +7,5 @@ use Rattle.aw_check_text.proofs.pairs.text_of.Goals as goal
 
 pub loop-sort-preserved : goal.loop-sort-preserved
 loop-sort-preserved c =
-    lines-next (lines_of_sort (has_pair c.args.io.now) (words_of c.args.g.now) (grammar_of c.args.g.now)) 0 c.loop-sort.sort c.loop-sort.sort (codes "accepted\n") _ _ (omega arith) c.loop-sort.invariant c.in_ok-push_sort.ensures
+    lines-next (lines_of_sort (has_pair c.args.io.now) (words_of c.args.g.now) (grammar_of c.args.g.now)) 0 c.loop-sort.sort c.loop-sort.sort
+    (codes "accepted\n") _ _ (omega arith) c.loop-sort.invariant c.in_ok-push_sort.ensures

@@ -17,4 +17,5 @@ returns c =
     let g = c.args.g.now in
     let p = c.in_ok-part.part in
     let is = c.in_ok-part.ensures in
-    role_if_ok g c.args.f.now p c.args.declared.now c.args.role c.args.text.now c.push_part-told.new.text c.push_part-told.result is.faces is.role is.grammar (words_of_part g p.grammar c.args.role is.roles is.cons is.sorts is.rules) c.push_part-told.ensures
+    role_if_ok g c.args.f.now p c.args.declared.now c.args.role c.args.text.now c.push_part-told.new.text c.push_part-told.result is.faces is.role
+    is.grammar (words_of_part g p.grammar c.args.role is.roles is.cons is.sorts is.rules) c.push_part-told.ensures

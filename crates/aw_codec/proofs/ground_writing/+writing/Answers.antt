@@ -13,7 +13,8 @@ use Rattle.aw_codec.proofs.ground_writing.+writing.Goals as goal
 
 pub add_ground-returns-in_ok-add_byte-in-Con-2-clause-ok : goal.add_ground-returns-in_ok-add_byte-in-Con-2-clause-ok
 add_ground-returns-in_ok-add_byte-in-Con-2-clause-ok t c =
-    con_added c.add_each.result c.args.ground.now c.in-Con.con c.in-Con.parts c.as_slice.result.now c.len.result c.count_of.result c.args.text.now c.add_byte.new.text c.add_u16.new.text c.add_byte-in-Con.new.text c.add_each.new.text
+    con_added c.add_each.result c.args.ground.now c.in-Con.con c.in-Con.parts c.as_slice.result.now c.len.result c.count_of.result c.args.text.now
+    c.add_byte.new.text c.add_u16.new.text c.add_byte-in-Con.new.text c.add_each.new.text
     c.in-Con.is c.as_slice.ensures c.len.ensures c.count_of.ensures c.in_ok-add_byte-in-Con.ensures.ok c.in_ok-add_u16-in-Con.ensures.ok c.in_ok-add_byte-in-Con-2.ensures.ok c.add_each.ensures.ok
 
 pub add_ground-returns-in_ok-add_byte-in-Con-2-clause-sized : goal.add_ground-returns-in_ok-add_byte-in-Con-2-clause-sized
@@ -35,9 +36,12 @@ add_ground-returns-in_ok-add_byte-in-Text-clause-kept t c =
 pub add_each-loop-ground-preserved : goal.add_each-loop-ground-preserved
 add_each-loop-ground-preserved t c = record {
   added = λ h.
-      one_more (λ g. spelled_ground (ground_of g)) c.args.grounds.now c.loop-ground.ground-index c.ground-item.result c.args.text.now c.loop-ground.text c.add_ground.new.text c.loop-ground-test.true c.ground-item.is (c.loop-ground.invariant.added h)
-      (c.in_ok-add_ground.ensures.ok (subst (λ y. HeadsInRange (ground_of y)) (sym c.ground-item.is) (each_at HeadsInRange ground_of c.args.grounds.now c.loop-ground.ground-index c.ground-item.result c.loop-ground-test.true h)));
-  sized = each_more_seen GroundSized ground_of c.args.grounds.now c.loop-ground.ground-index c.ground-item.result c.loop-ground-test.true c.ground-item.is c.loop-ground.invariant.sized c.in_ok-add_ground.ensures.sized;
+      one_more (λ g. spelled_ground (ground_of g)) c.args.grounds.now c.loop-ground.ground-index c.ground-item.result c.args.text.now
+      c.loop-ground.text c.add_ground.new.text c.loop-ground-test.true c.ground-item.is (c.loop-ground.invariant.added h)
+      (c.in_ok-add_ground.ensures.ok (subst (λ y. HeadsInRange (ground_of y)) (sym c.ground-item.is)
+      (each_at HeadsInRange ground_of c.args.grounds.now c.loop-ground.ground-index c.ground-item.result c.loop-ground-test.true h)));
+  sized = each_more_seen GroundSized ground_of c.args.grounds.now c.loop-ground.ground-index c.ground-item.result c.loop-ground-test.true
+      c.ground-item.is c.loop-ground.invariant.sized c.in_ok-add_ground.ensures.sized;
   kept = starts_with_trans c.add_ground.new.text c.loop-ground.text c.args.text.now c.in_ok-add_ground.ensures.kept c.loop-ground.invariant.kept;
 }
 

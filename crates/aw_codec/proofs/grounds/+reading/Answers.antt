@@ -31,16 +31,20 @@ ground_at-returns t c =
 pub grounds_at-returns-in_err-ground : goal.grounds_at-returns-in_err-ground
 grounds_at-returns-in_err-ground t c =
     let p = err_from_is_err_and c.from_residual.result c.from_residual.ensures.1 in
-    rw (p.1, p.2) (ends c.in_err-ground.field-0.0 (ground c.args.levels) (map ground_of c.loop.grounds.items) c.args.count c.loop.counter c.loop.left c.loop.rest.now (in_turn (ground c.args.levels) c.args.count c.args.allowed c.args.bytes.now) c.loop-test.true c.in_err-ground.ensures c.loop.invariant)
+    rw (p.1, p.2) (ends c.in_err-ground.field-0.0 (ground c.args.levels) (map ground_of c.loop.grounds.items) c.args.count c.loop.counter c.loop.left
+    c.loop.rest.now (in_turn (ground c.args.levels) c.args.count c.args.allowed c.args.bytes.now) c.loop-test.true c.in_err-ground.ensures c.loop.invariant)
 
 pub grounds_at-loop-preserved : goal.grounds_at-loop-preserved
 grounds_at-loop-preserved t c =
     let n = c.in_ok-ground.ground in
     let e : map ground_of c.push.new.self.items ≡ map ground_of c.loop.grounds.items ++ ground_of n ∷ [] = rw c.in_ok-push.ensures.items (map_push _ c.loop.grounds.items n) in
-    rw e (goes_on (ground c.args.levels) (map ground_of c.loop.grounds.items) c.args.count c.loop.counter c.loop.left c.loop.rest.now (ground_of n) c.in_ok-ground.less c.in_ok-ground.behind.now (in_turn (ground c.args.levels) c.args.count c.args.allowed c.args.bytes.now) c.loop-test.true c.in_ok-ground.ensures c.loop.invariant)
+    rw e (goes_on (ground c.args.levels) (map ground_of c.loop.grounds.items) c.args.count c.loop.counter c.loop.left c.loop.rest.now (ground_of n)
+    c.in_ok-ground.less c.in_ok-ground.behind.now (in_turn (ground c.args.levels) c.args.count c.args.allowed c.args.bytes.now) c.loop-test.true
+    c.in_ok-ground.ensures c.loop.invariant)
 
 pub grounds_at-returns : goal.grounds_at-returns
-grounds_at-returns t c = rw c.from_vec.ensures (is_done (ground c.args.levels) (map ground_of c.loop.grounds.items) c.args.count c.loop.counter c.loop.left c.loop.rest.now (in_turn (ground c.args.levels) c.args.count c.args.allowed c.args.bytes.now) c.loop-test.false c.loop.invariant)
+grounds_at-returns t c = rw c.from_vec.ensures (is_done (ground c.args.levels) (map ground_of c.loop.grounds.items) c.args.count c.loop.counter
+    c.loop.left c.loop.rest.now (in_turn (ground c.args.levels) c.args.count c.args.allowed c.args.bytes.now) c.loop-test.false c.loop.invariant)
 
 pub with_parts-returns-in_ok-parts-in-Con : goal.with_parts-returns-in_ok-parts-in-Con
 with_parts-returns-in_ok-parts-in-Con t c =

@@ -11,8 +11,12 @@ returns-in_err-write_all-clause-err g c p =
 
 pub returns-clause-ok : goal.returns-clause-ok
 returns-clause-ok g c =
-    ok-map c.read_reply.result _ _ (λ bytes h. answered c.args.request _ (talks-then g.W.Wire.content g.W.Wire.is_open g.W.Wire.faults g.W.Wire.failed_openings) c.args.wire.now c.write_all.new.wire c.read_reply.new.wire c.args.frame.now bytes c.in_ok-write_all.ensures.all h) c.read_reply.ensures.ok
+    ok-map c.read_reply.result _ _ (λ bytes h. answered c.args.request _ (talks-then g.W.Wire.content g.W.Wire.is_open g.W.Wire.faults
+    g.W.Wire.failed_openings) c.args.wire.now c.write_all.new.wire c.read_reply.new.wire c.args.frame.now bytes c.in_ok-write_all.ensures.all
+    h) c.read_reply.ensures.ok
 
 pub returns-clause-err : goal.returns-clause-err
 returns-clause-err g c p =
-    err-map c.read_reply.result _ _ (λ fault h. not-answered p c.args.request _ (talks-then g.W.Wire.content g.W.Wire.is_open g.W.Wire.faults g.W.Wire.failed_openings) c.args.wire.now c.write_all.new.wire c.read_reply.new.wire c.args.frame.now _ fault c.in_ok-write_all.ensures.all h) (c.read_reply.ensures.err p)
+    err-map c.read_reply.result _ _ (λ fault h. not-answered p c.args.request _ (talks-then g.W.Wire.content g.W.Wire.is_open g.W.Wire.faults
+    g.W.Wire.failed_openings) c.args.wire.now c.write_all.new.wire c.read_reply.new.wire c.args.frame.now _ fault c.in_ok-write_all.ensures.all h)
+    (c.read_reply.ensures.err p)

@@ -17,7 +17,8 @@ reading-init g c = record {
 pub returns-in_default-clause-err : goal.returns-in_default-clause-err
 returns-in_default-clause-err g c p =
     let none = ap (λ b. size_from c.args.request b) (sym c.as_slice.ensures) ∙ sym c.size_of.ensures ∙ c.in_default.is in
-    wrong-read p c.args.request (Talks g.W.Wire.content g.W.Wire.is_open g.W.Wire.faults g.W.Wire.failed_openings) c.args.wire.now c.reading.wire c.reading.bytes _ c.reading.invariant.talks (none-begins p c.args.request c.reading.bytes none)
+    wrong-read p c.args.request (Talks g.W.Wire.content g.W.Wire.is_open g.W.Wire.faults g.W.Wire.failed_openings) c.args.wire.now c.reading.wire
+    c.reading.bytes _ c.reading.invariant.talks (none-begins p c.args.request c.reading.bytes none)
 
 pub reading-smaller : goal.reading-smaller
 reading-smaller g c =
@@ -34,7 +35,8 @@ reading-preserved g c =
     let size-is = ap (λ b. size_from c.args.request b) (sym c.as_slice.ensures) ∙ sym c.size_of.ensures ∙ c.in-Some.is in
     let within = c.reading.invariant.within c.in-Some.size size-is in
     record {
-      talks = rw k.more (more-read _ (talks-then g.W.Wire.content g.W.Wire.is_open g.W.Wire.faults g.W.Wire.failed_openings) c.args.wire.now c.reading.wire c.read_more.new.wire c.reading.bytes k.piece c.reading.invariant.talks k.talked);
+      talks = rw k.more (more-read _ (talks-then g.W.Wire.content g.W.Wire.is_open g.W.Wire.faults g.W.Wire.failed_openings) c.args.wire.now
+          c.reading.wire c.read_more.new.wire c.reading.bytes k.piece c.reading.invariant.talks k.talked);
       within = rw k.more (within-more c.args.request c.reading.bytes k.piece c.in-Some.size size-is (omega (arith, k.few, c.len-in-reading.ensures)) within);
     }
 
@@ -42,5 +44,6 @@ pub returns-in_err-read_more-clause-err : goal.returns-in_err-read_more-clause-e
 returns-in_err-read_more-clause-err g c p =
     let size-is = ap (λ b. size_from c.args.request b) (sym c.as_slice.ensures) ∙ sym c.size_of.ensures ∙ c.in-Some.is in
     err-passed _ _ _ c.from_residual.ensures.1
-    (not-read p c.args.request _ (talks-then g.W.Wire.content g.W.Wire.is_open g.W.Wire.faults g.W.Wire.failed_openings) c.args.wire.now c.reading.wire c.read_more.new.wire c.reading.bytes _ _ c.reading.invariant.talks
+    (not-read p c.args.request _ (talks-then g.W.Wire.content g.W.Wire.is_open g.W.Wire.faults g.W.Wire.failed_openings) c.args.wire.now
+    c.reading.wire c.read_more.new.wire c.reading.bytes _ _ c.reading.invariant.talks
     (short-of p c.args.request c.reading.bytes c.in-Some.size size-is (omega (arith, c.if-size-len.false, c.len.ensures))) c.in_err-read_more.ensures.err)

@@ -16,7 +16,8 @@ rounds-init g c =
     let same = sym (c.len-roles.ensures ∙ ap (λ (d : declared.Grammar). length d.roles) c.grammar.ensures.value) in
     record {
       roles = c.in_ok-mails.ensures.size;
-      carrying = carrying-none (grammar_of c.args.g.now.grammar) g.W.Wire.content g.W.Wire.faults g.W.Wire.failed_openings c.args.wire.now c.in_ok-mails.mails (c.in_ok-mails.ensures.shows (grammar_of c.args.g.now.grammar) same);
+      carrying = carrying-none (grammar_of c.args.g.now.grammar) g.W.Wire.content g.W.Wire.faults g.W.Wire.failed_openings c.args.wire.now
+          c.in_ok-mails.mails (c.in_ok-mails.ensures.shows (grammar_of c.args.g.now.grammar) same);
     }
 
 pub overflow_cast-roles : goal.overflow_cast-roles
@@ -37,7 +38,8 @@ returns-in_err-round-clause-err g c =
     let same = sym (c.len-roles.ensures ∙ ap (λ (d : declared.Grammar). length d.roles) c.grammar.ensures.value) in
     let h = c.rounds.invariant.carrying in
     err-passed _ _ _ c.from_residual-in_err-round.ensures.1
-    (carrying-broken G g.W.Wire.content g.W.Wire.faults g.W.Wire.failed_openings c.rounds.made c.args.rounds c.args.wire.now c.rounds.wire c.round.new.wire c.rounds.mails _ h (c.in_err-round.ensures.err G _ same h.shows) c.rounds-test.true)
+    (carrying-broken G g.W.Wire.content g.W.Wire.faults g.W.Wire.failed_openings c.rounds.made c.args.rounds c.args.wire.now c.rounds.wire
+    c.round.new.wire c.rounds.mails _ h (c.in_err-round.ensures.err G _ same h.shows) c.rounds-test.true)
 
 pub returns-then-not-branch-clause-ok : goal.returns-then-not-branch-clause-ok
 returns-then-not-branch-clause-ok g c =

@@ -8,7 +8,8 @@ use Rattle.aw_courier.proofs.carrying.round.Goals as goal
 pub returns-in-Err-clause-err : goal.returns-in-Err-clause-err
 returns-in-Err-clause-err g c p co e s =
     let h = c.turns.invariant.made p co e s in
-    round-broken p g.W.Wire.content g.W.Wire.faults g.W.Wire.failed_openings co c.turns.role c.args.wire.now c.turns.wire c.turn.new.wire c.turns.mails c.turns.moved c.in-Err.broken c.fault_at.result h
+    round-broken p g.W.Wire.content g.W.Wire.faults g.W.Wire.failed_openings co c.turns.role c.args.wire.now c.turns.wire c.turn.new.wire
+    c.turns.mails c.turns.moved c.in-Err.broken c.fault_at.result h
     (c.in-Err.ensures.err p (after_all co (sessions_of h.turns)) h.shows) c.fault_at.ensures
 
 pub turns-preserved : goal.turns-preserved

@@ -8,7 +8,8 @@ pub returns-in_err-bytes-clause-err : goal.returns-in_err-bytes-clause-err
 returns-in_err-bytes-clause-err g c p e = err-passed _ _ _ c.from_residual.ensures.1 (rw c.pull_frame.ensures at (c.in_err-bytes.ensures.err p))
 
 pub returns-in_err-to-clause-err : goal.returns-in_err-to-clause-err
-returns-in_err-to-clause-err g c p e = err-passed _ _ _ c.from_residual-in_err-to.ensures.1 (pulled-unseen p c.args.place _ _ c.pull_frame.result c.in_ok-bytes.bytes c.pull_frame.ensures c.in_ok-bytes.ensures.ok)
+returns-in_err-to-clause-err g c p e = err-passed _ _ _ c.from_residual-in_err-to.ensures.1 (pulled-unseen p c.args.place _ _ c.pull_frame.result
+    c.in_ok-bytes.bytes c.pull_frame.ensures c.in_ok-bytes.ensures.ok)
 
 pub returns-in-Message-clause-ok : goal.returns-in-Message-clause-ok
 returns-in-Message-clause-ok g c p e =

@@ -11,7 +11,8 @@ invariant-pulling g l = record {
   holds : Holds l.role l.mails;
   size : SameSize l.fn.mails l.mails;
   underway : (p : Grammar) (c : Courier) (u : _) →
-      IsUnderway p (Talks g.W.Wire.content g.W.Wire.is_open g.W.Wire.faults g.W.Wire.failed_openings) c l.role u l.fn.wire l.fn.mails (pulling l.role l.fn.pushes.room turn_messages) l.fn.pushes.moved →
+      IsUnderway p (Talks g.W.Wire.content g.W.Wire.is_open g.W.Wire.faults g.W.Wire.failed_openings) c l.role u l.fn.wire l.fn.mails
+      (pulling l.role l.fn.pushes.room turn_messages) l.fn.pushes.moved →
       IsUnderway p (Talks g.W.Wire.content g.W.Wire.is_open g.W.Wire.faults g.W.Wire.failed_openings) c l.role u l.wire l.mails (pulling l.role l.room l.left) l.moved;
   stays : g.W.Wire.is_open l.wire ≡ true;
 }

@@ -21,12 +21,14 @@ returns-in_err-pushes-clause-err g c p co s =
 
 pub returns-clause-ok : goal.returns-clause-ok
 returns-clause-ok g c p co s =
-    ok-map c.pull_all.result _ _ (λ moved h. turn-made p g.W.Wire.content g.W.Wire.is_open g.W.Wire.faults g.W.Wire.failed_openings co c.args.role c.args.wire.now c.dial.new.self c.pull_all.new.wire c.pull_all.new.mails moved
+    ok-map c.pull_all.result _ _ (λ moved h. turn-made p g.W.Wire.content g.W.Wire.is_open g.W.Wire.faults g.W.Wire.failed_openings co c.args.role
+    c.args.wire.now c.dial.new.self c.pull_all.new.wire c.pull_all.new.mails moved
     c.in-Opened.ensures.content (c.in-Opened.ensures.kept (λ e. absurd (cc e))) (c.in-Opened.ensures.openings_kept (λ e. absurd (cc e))) h)
     (rw c.from-at.ensures at (c.pull_all.ensures.ok p co c.dial.new.self (c.in_ok-pushes.ensures.ok p co s)))
 
 pub returns-clause-err : goal.returns-clause-err
 returns-clause-err g c p co s =
-    err-map c.pull_all.result _ _ (λ fault h. turn-stopped p g.W.Wire.content g.W.Wire.is_open g.W.Wire.faults g.W.Wire.failed_openings co c.args.role c.args.wire.now c.dial.new.self c.pull_all.new.wire fault
+    err-map c.pull_all.result _ _ (λ fault h. turn-stopped p g.W.Wire.content g.W.Wire.is_open g.W.Wire.faults g.W.Wire.failed_openings co c.args.role
+    c.args.wire.now c.dial.new.self c.pull_all.new.wire fault
     c.in-Opened.ensures.content (c.in-Opened.ensures.kept (λ e. absurd (cc e))) h)
     (rw c.from-at.ensures at (c.pull_all.ensures.err p co c.dial.new.self (c.in_ok-pushes.ensures.ok p co s)))

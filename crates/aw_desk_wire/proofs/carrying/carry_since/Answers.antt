@@ -23,11 +23,13 @@ pub returns-clause-err : goal.returns-clause-err
 returns-clause-err g c =
     broken-as _ _ _ _ c.new-traced.result c.carry-answer.new.wire c.args.wire c.into_wire.result
     (ap (λ w. Some (content_of w.calls)) c.new-traced.ensures ∙ ap (λ cs. Some (content_of cs)) c.close.ensures.calls) (ap (λ w. Some (content_of w.calls)) (sym c.into_wire.ensures.wire))
-    (ap (λ w. w.starved) c.new-traced.ensures ∙ c.close.ensures.starved) (ap (λ w. w.starved) (sym c.into_wire.ensures.wire)) (grammar_of c.args.g.now.grammar) c.args.rounds c.carry-answer.result c.carry-answer.ensures.err
+    (ap (λ w. w.starved) c.new-traced.ensures ∙ c.close.ensures.starved) (ap (λ w. w.starved) (sym c.into_wire.ensures.wire))
+    (grammar_of c.args.g.now.grammar) c.args.rounds c.carry-answer.result c.carry-answer.ensures.err
 
 pub returns-clause-world : goal.returns-clause-world
 returns-clause-world g c =
     ∥∥₁_map c.carry-answer.ensures.world (λ h. means-as _ _ _ _ c.new-traced.result c.carry-answer.new.wire c.args.wire c.into_wire.result
     (ap (λ w. Some (content_of w.calls)) c.new-traced.ensures ∙ ap (λ cs. Some (content_of cs)) c.close.ensures.calls) (ap (λ w. Some (content_of w.calls)) (sym c.into_wire.ensures.wire))
     (ap (λ w. w.starved) c.new-traced.ensures ∙ c.close.ensures.starved) (ap (λ w. w.starved) (sym c.into_wire.ensures.wire)) (grammar_of c.args.g.now.grammar)
-    _ _ (ap (λ w. w.unopened) c.new-traced.ensures ∙ c.close.ensures.unopened) (ap (λ w. w.unopened) (sym c.into_wire.ensures.wire)) (words_of c.args.g.now.grammar) c.args.rounds c.carry-answer.result h)
+    _ _ (ap (λ w. w.unopened) c.new-traced.ensures ∙ c.close.ensures.unopened) (ap (λ w. w.unopened) (sym c.into_wire.ensures.wire))
+    (words_of c.args.g.now.grammar) c.args.rounds c.carry-answer.result h)

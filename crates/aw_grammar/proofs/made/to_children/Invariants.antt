@@ -13,5 +13,6 @@ invariant-loop-child l = record {
   made : map (child_of l.grammar.sorts) l.made ++ map (child_numbered (words_of l.grammar).cons (words_of l.grammar).sorts l.variables.names) (map child_of_raw (drop l.child-index l.child-items))
       ≡ map (child_numbered (words_of l.grammar).cons (words_of l.grammar).sorts l.variables.names) (map child_of_raw l.children);
   fit : children_fit l.grammar.sorts (map child_of_raw (drop l.child-index l.child-items)) ≡ true;
-  faultless : all_faultless l.grammar.cons l.variables.names (args_of (map child_of_raw (drop l.child-index l.child-items))) ≡ all_faultless l.grammar.cons l.variables.names (args_of (map child_of_raw l.children));
+  faultless : all_faultless l.grammar.cons l.variables.names (args_of (map child_of_raw (drop l.child-index l.child-items))) ≡ all_faultless
+      l.grammar.cons l.variables.names (args_of (map child_of_raw l.children));
 }

@@ -17,7 +17,8 @@ pub two_indexes-requires-2-clause-first : goal.two_indexes-requires-2-clause-fir
 two_indexes-requires-2-clause-first c = ap (λ xs. has_double (map (λ (x : Sort). x.name) xs)) c.as_slice-3.ensures ∙ once (map (λ (x : Sort). x.name) c.args.sorts.now) c.requires (λ w. w.sorts_differ)
 
 pub two_indexes-requires-2-clause-second : goal.two_indexes-requires-2-clause-second
-two_indexes-requires-2-clause-second c = ap (λ xs. has_double (map (λ (x : Rule). x.name) xs)) c.as_slice-4.ensures ∙ once (map (λ (x : Rule). x.name) c.args.rules.now) c.requires (λ w. w.rules_differ)
+two_indexes-requires-2-clause-second c = ap (λ xs. has_double (map (λ (x : Rule). x.name) xs)) c.as_slice-4.ensures
+    ∙ once (map (λ (x : Rule). x.name) c.args.rules.now) c.requires (λ w. w.rules_differ)
 
 pub returns-clause-roles : goal.returns-clause-roles
 returns-clause-roles c = c.in_ok-first_two.ensures.first ∙ map-id c.as_slice.result.now ∙ c.as_slice.ensures

@@ -5,4 +5,10 @@ use Rattle.aw_grammar.proofs.Emptying.{symbols_left, left_insert}
 use Rattle.aw_grammar.proofs.raw.hang_rest.Goals as goal
 
 pub returns : goal.returns
-returns c = omega (arith, ap symbols_left c.in-Ok.ensures.items, left_insert c.args.parts.items (raw.Apply c.args.name c.from_vec.result), symbols_apply c.args.name c.from_vec.result, ap symbols_left c.from_vec.ensures)
+returns c = omega (
+  arith,
+  ap symbols_left c.in-Ok.ensures.items,
+  left_insert c.args.parts.items (raw.Apply c.args.name c.from_vec.result),
+  symbols_apply c.args.name c.from_vec.result,
+  ap symbols_left c.from_vec.ensures,
+)

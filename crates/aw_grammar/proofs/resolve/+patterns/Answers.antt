@@ -39,7 +39,8 @@ to_pattern-returns-in-Some-2 t c =
     let name = c.in-Apply.name in let parts = c.in-Apply.parts in
     let all = all_faultless g.cons names (map written_of parts) in
     let here : is_declared (length parts) (con_called name g.cons) ≡ true = ap (λ n. is_declared n (con_called name g.cons)) (sym c.len.ensures) ∙ c.in-Some.ensures.0 in
-    let made = made_some all (λ made. map pattern_of made ≡ map (numbered (words_of g).cons names) (map written_of parts)) c.in_ok-made-in-Apply.field-0 c.in-Some-2.made c.in-Some-2.is c.in_ok-made-in-Apply.ensures in (
+    let made = made_some all (λ made. map pattern_of made ≡ map (numbered (words_of g).cons names) (map written_of parts))
+    c.in_ok-made-in-Apply.field-0 c.in-Some-2.made c.in-Some-2.is c.in_ok-made-in-Apply.ensures in (
       faultless_apply g.cons names c.args.term.now name parts c.in-Apply.is ∙ ap (λ b. b && all) here ∙ made.0,
       made_pattern (words_of g).cons names c.args.term.now name parts c.in-Some.con c.in-Some-2.made c.in-Apply.is
           (placed_number (words_of g).cons name c.in-Some.con c.in-Some.ensures.1) made.1,

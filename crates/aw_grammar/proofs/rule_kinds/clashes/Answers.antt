@@ -12,7 +12,8 @@ returns-then-contains_any c =
     let cons = (words_of c.args.grammar.now).cons in
     let rest = results_of (map child_of_raw c.args.rule.now.children) in
     or_first (any_stands c.args.rule.now.params cons) (any_stands rest cons)
-    (ap (any_stands c.args.rule.now.params) (sym c.args.grammar.now.con_names) ∙ ap (λ ns. any_stands ns c.args.grammar.now.con_index) (sym c.as_slice.ensures) ∙ sym c.contains_any.ensures ∙ c.if-contains_any.true)
+    (ap (any_stands c.args.rule.now.params) (sym c.args.grammar.now.con_names) ∙ ap (λ ns. any_stands ns c.args.grammar.now.con_index)
+    (sym c.as_slice.ensures) ∙ sym c.contains_any.ensures ∙ c.if-contains_any.true)
     ∙ sym (any_append cons c.args.rule.now.params rest)
 
 pub returns : goal.returns
@@ -20,6 +21,7 @@ returns c =
     let cons = (words_of c.args.grammar.now).cons in
     let rest = results_of (map child_of_raw c.args.rule.now.children) in
     or_last (any_stands c.args.rule.now.params cons) (any_stands rest cons) c.any_result_stands.result
-    (ap (any_stands c.args.rule.now.params) (sym c.args.grammar.now.con_names) ∙ ap (λ ns. any_stands ns c.args.grammar.now.con_index) (sym c.as_slice.ensures) ∙ sym c.contains_any.ensures ∙ c.if-contains_any.false)
+    (ap (any_stands c.args.rule.now.params) (sym c.args.grammar.now.con_names) ∙ ap (λ ns. any_stands ns c.args.grammar.now.con_index)
+    (sym c.as_slice.ensures) ∙ sym c.contains_any.ensures ∙ c.if-contains_any.false)
     (c.any_result_stands.ensures ∙ ap (any_stands rest) c.args.grammar.now.con_names)
     ∙ sym (any_append cons c.args.rule.now.params rest)

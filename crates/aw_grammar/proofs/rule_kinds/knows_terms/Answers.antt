@@ -20,7 +20,8 @@ returns-then-not-args_are_known c =
     let w = c.args.rule.now in
     let g = c.args.grammar.now in
     let ps = map written_of w.patterns in let rest = args_of (map child_of_raw w.children) in let rs = map written_of w.results in
-    and_second (all_known g.con_index ps) (all_known g.con_index rest) (all_known g.con_index rs) (sym c.are_known.ensures ∙ c.if-not-are_known.false) (sym c.args_are_known.ensures ∙ c.if-not-args_are_known.true)
+    and_second (all_known g.con_index ps) (all_known g.con_index rest) (all_known g.con_index rs) (sym c.are_known.ensures ∙ c.if-not-are_known.false)
+    (sym c.args_are_known.ensures ∙ c.if-not-args_are_known.true)
     ∙ known_three g.con_index (words_of g).cons g.con_names ps rest rs
 
 pub returns : goal.returns

@@ -10,14 +10,16 @@ returns-in_err-left c =
     let w = c.args.rule.now in
     let ps = map written_of w.patterns in let xs = args_of (map child_of_raw w.children) in let rs = map written_of w.results in
     none_leaves _ _ c.from_residual.result c.from_residual.ensures
-    (room_first (depth_of_all ps) (depth_of_all xs) (depth_of_all rs) (symbols_in_all ps) (symbols_in_all xs) (symbols_in_all rs) _ _ (depth_three ps xs rs) (symbols_three ps xs rs) c.in_err-left.ensures)
+    (room_first (depth_of_all ps) (depth_of_all xs) (depth_of_all rs) (symbols_in_all ps) (symbols_in_all xs) (symbols_in_all rs) _ _
+    (depth_three ps xs rs) (symbols_three ps xs rs) c.in_err-left.ensures)
 
 pub returns-in_err-left-2 : goal.returns-in_err-left-2
 returns-in_err-left-2 c =
     let w = c.args.rule.now in
     let ps = map written_of w.patterns in let xs = args_of (map child_of_raw w.children) in let rs = map written_of w.results in
     none_leaves _ _ c.from_residual-in_err-left-2.result c.from_residual-in_err-left-2.ensures
-    (room_second (depth_of_all ps) (depth_of_all xs) (depth_of_all rs) (symbols_in_all ps) (symbols_in_all xs) (symbols_in_all rs) _ _ c.in_ok-left.left (depth_three ps xs rs) (symbols_three ps xs rs) c.in_ok-left.ensures.1 c.in_err-left-2.ensures)
+    (room_second (depth_of_all ps) (depth_of_all xs) (depth_of_all rs) (symbols_in_all ps) (symbols_in_all xs) (symbols_in_all rs) _ _
+    c.in_ok-left.left (depth_three ps xs rs) (symbols_three ps xs rs) c.in_ok-left.ensures.1 c.in_err-left-2.ensures)
 
 pub returns : goal.returns
 returns c =

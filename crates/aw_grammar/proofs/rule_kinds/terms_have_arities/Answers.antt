@@ -19,7 +19,8 @@ returns-then-not-args_have_arities c =
     let w = c.args.rule.now in
     let g = c.args.grammar.now in
     let ps = map written_of w.patterns in let rest = args_of (map child_of_raw w.children) in let rs = map written_of w.results in
-    and_second (all_have_arities g.cons ps) (all_have_arities g.cons rest) (all_have_arities g.cons rs) (sym c.have_arities.ensures ∙ c.if-not-have_arities.false) (sym c.args_have_arities.ensures ∙ c.if-not-args_have_arities.true)
+    and_second (all_have_arities g.cons ps) (all_have_arities g.cons rest) (all_have_arities g.cons rs) (sym c.have_arities.ensures
+    ∙ c.if-not-have_arities.false) (sym c.args_have_arities.ensures ∙ c.if-not-args_have_arities.true)
     ∙ arities_three g.cons ps rest rs
 
 pub returns : goal.returns

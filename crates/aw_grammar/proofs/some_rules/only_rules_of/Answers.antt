@@ -9,7 +9,8 @@ pub of_declared-requires-clause-well_formed : goal.of_declared-requires-clause-w
 of_declared-requires-clause-well_formed c =
     let g = c.args.g.now in
     let test = λ (r : Rule). is_at (sorts_of g.sorts) c.args.role (rule_of g.sorts r) in
-    good_kept g.roles g.cons g.sorts g.rules test c.in_ok-roles.roles c.in_ok-cons.cons c.in_ok-sorts.sorts c.in_ok-rules.rules c.in_ok-roles.ensures c.in_ok-cons.ensures c.in_ok-sorts.ensures c.in_ok-rules.ensures g.well_formed
+    good_kept g.roles g.cons g.sorts g.rules test c.in_ok-roles.roles c.in_ok-cons.cons c.in_ok-sorts.sorts c.in_ok-rules.rules c.in_ok-roles.ensures
+    c.in_ok-cons.ensures c.in_ok-sorts.ensures c.in_ok-rules.ensures g.well_formed
 
 pub of_declared-requires-clause-variables : goal.of_declared-requires-clause-variables
 of_declared-requires-clause-variables c =
@@ -22,4 +23,5 @@ returns-clause-grammar c =
     let g = c.args.g.now in
     let h = c.in_ok-kept.kept in
     shown_kept g.roles g.cons g.sorts g.rules (is_at (sorts_of g.sorts) c.args.role) h.roles h.cons h.sorts h.rules
-    (c.in_ok-kept.ensures.roles ∙ c.in_ok-roles.ensures) (c.in_ok-kept.ensures.cons ∙ c.in_ok-cons.ensures) (c.in_ok-kept.ensures.sorts ∙ c.in_ok-sorts.ensures) (c.in_ok-kept.ensures.rules ∙ c.in_ok-rules.ensures)
+    (c.in_ok-kept.ensures.roles ∙ c.in_ok-roles.ensures) (c.in_ok-kept.ensures.cons ∙ c.in_ok-cons.ensures) (c.in_ok-kept.ensures.sorts
+    ∙ c.in_ok-sorts.ensures) (c.in_ok-kept.ensures.rules ∙ c.in_ok-rules.ensures)

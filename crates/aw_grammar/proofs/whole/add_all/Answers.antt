@@ -70,7 +70,8 @@ returns-in_err-with_roles c =
     let sorts = sorts_placed 0 c.args.parts.sorts in
     let starts = starts_placed 0 c.args.parts.starts in
     let rules = rules_placed 0 c.args.parts.rules in
-    stops_before (declarations_of c.args.grammar) roles (cons ++ (sorts ++ (starts ++ rules))) c.in_err-with_roles.field-0.0 c.from_residual.result c.from_residual.ensures.1 c.in_err-with_roles.ensures.built
+    stops_before (declarations_of c.args.grammar) roles (cons ++ (sorts ++ (starts ++ rules))) c.in_err-with_roles.field-0.0 c.from_residual.result
+    c.from_residual.ensures.1 c.in_err-with_roles.ensures.built
 
 pub returns-in_err-with_cons : goal.returns-in_err-with_cons
 returns-in_err-with_cons c =
@@ -80,7 +81,8 @@ returns-in_err-with_cons c =
     let starts = starts_placed 0 c.args.parts.starts in
     let rules = rules_placed 0 c.args.parts.rules in
     built_after (declarations_of c.args.grammar) roles (cons ++ (sorts ++ (starts ++ rules))) c.in_ok-with_roles.with_roles c.from_residual-in_err-with_cons.result c.in_ok-with_roles.ensures.built
-    (stops_before (declarations_of c.in_ok-with_roles.with_roles) cons (sorts ++ (starts ++ rules)) c.in_err-with_cons.field-0.0 c.from_residual-in_err-with_cons.result c.from_residual-in_err-with_cons.ensures.1 c.in_err-with_cons.ensures.built)
+    (stops_before (declarations_of c.in_ok-with_roles.with_roles) cons (sorts ++ (starts ++ rules)) c.in_err-with_cons.field-0.0
+    c.from_residual-in_err-with_cons.result c.from_residual-in_err-with_cons.ensures.1 c.in_err-with_cons.ensures.built)
 
 pub returns-in_err-with_sorts : goal.returns-in_err-with_sorts
 returns-in_err-with_sorts c =
@@ -91,7 +93,8 @@ returns-in_err-with_sorts c =
     let rules = rules_placed 0 c.args.parts.rules in
     built_after (declarations_of c.args.grammar) roles (cons ++ (sorts ++ (starts ++ rules))) c.in_ok-with_roles.with_roles c.from_residual-in_err-with_sorts.result c.in_ok-with_roles.ensures.built
     (built_after (declarations_of c.in_ok-with_roles.with_roles) cons (sorts ++ (starts ++ rules)) c.in_ok-with_cons.with_cons c.from_residual-in_err-with_sorts.result c.in_ok-with_cons.ensures.built
-    (stops_before (declarations_of c.in_ok-with_cons.with_cons) sorts (starts ++ rules) c.in_err-with_sorts.field-0.0 c.from_residual-in_err-with_sorts.result c.from_residual-in_err-with_sorts.ensures.1 c.in_err-with_sorts.ensures.built))
+    (stops_before (declarations_of c.in_ok-with_cons.with_cons) sorts (starts ++ rules) c.in_err-with_sorts.field-0.0
+    c.from_residual-in_err-with_sorts.result c.from_residual-in_err-with_sorts.ensures.1 c.in_err-with_sorts.ensures.built))
 
 pub returns-in_err-with_starts : goal.returns-in_err-with_starts
 returns-in_err-with_starts c =
@@ -103,4 +106,5 @@ returns-in_err-with_starts c =
     built_after (declarations_of c.args.grammar) roles (cons ++ (sorts ++ (starts ++ rules))) c.in_ok-with_roles.with_roles c.from_residual-in_err-with_starts.result c.in_ok-with_roles.ensures.built
     (built_after (declarations_of c.in_ok-with_roles.with_roles) cons (sorts ++ (starts ++ rules)) c.in_ok-with_cons.with_cons c.from_residual-in_err-with_starts.result c.in_ok-with_cons.ensures.built
     (built_after (declarations_of c.in_ok-with_cons.with_cons) sorts (starts ++ rules) c.in_ok-with_sorts.with_sorts c.from_residual-in_err-with_starts.result c.in_ok-with_sorts.ensures.built
-    (stops_before (declarations_of c.in_ok-with_sorts.with_sorts) starts rules c.in_err-with_starts.field-0.0 c.from_residual-in_err-with_starts.result c.from_residual-in_err-with_starts.ensures.1 c.in_err-with_starts.ensures.built)))
+    (stops_before (declarations_of c.in_ok-with_sorts.with_sorts) starts rules c.in_err-with_starts.field-0.0
+    c.from_residual-in_err-with_starts.result c.from_residual-in_err-with_starts.ensures.1 c.in_err-with_starts.ensures.built)))

@@ -13,7 +13,8 @@ returns-clause-list c r e =
 
 pub returns-clause-edges : goal.returns-clause-edges
 returns-clause-edges c r e o u =
-    let same = c.in_ok-graph.ensures ∙ ap text_flows (rule_here (rule_of c.args.g.now.sorts) c.args.g.now.rules c.from.result c.args.rule c.small_rule.result.now r c.small_rule.ensures.value c.from.ensures e) in (
+    let same = c.in_ok-graph.ensures ∙ ap text_flows (rule_here (rule_of c.args.g.now.sorts) c.args.g.now.rules c.from.result c.args.rule
+    c.small_rule.result.now r c.small_rule.ensures.value c.from.ensures e) in (
       λ m. flows_only r (record { from = o; to = u }) (subst (λ (fs : List Flow). Member (record { from = o; to = u }) fs) same m),
       λ (v, t, enters, stands, uses). subst (λ (fs : List Flow). Member (record { from = o; to = u }) fs) (sym same) (flows_all r o u v t enters stands uses),
     )

@@ -11,8 +11,15 @@ loop-pair-init c = joins_no_pair c.args.io.now c.args.sort c.args.child c.args.r
 pub join_call-requires-clause-placed : goal.join_call-requires-clause-placed
 join_call-requires-clause-placed c a q =
     let lt : c.loop-pair.pair < 64 = omega (arith, c.loop-pair-test.true, c.pairs-marked-items.ensures.few) in
-    c.requires.placed a
-    (_, _, (marked_has c.args.io.now c.args.sort c.pairs-marked-items.result.now c.pairs-marked-items.ensures.marks c.loop-pair.pair _ lt (slice_get-get_or c.pairs-marked-items.result.now c.loop-pair.pair false c.loop-pair-test.true) q.0, q.1))
+    c.requires.placed a (
+      _,
+      _,
+      (
+        marked_has c.args.io.now c.args.sort c.pairs-marked-items.result.now c.pairs-marked-items.ensures.marks c.loop-pair.pair _ lt
+            (slice_get-get_or c.pairs-marked-items.result.now c.loop-pair.pair false c.loop-pair-test.true) q.0,
+        q.1,
+      ),
+    )
 
 pub loop-pair-preserved : goal.loop-pair-preserved
 loop-pair-preserved c =

@@ -15,9 +15,11 @@ join_flows-then-requires-clause-placed c a q =
 pub returns-then-then : goal.returns-then-then
 returns-then-then c =
     joins_steps c.args.entries.now c.args.io.now c.args.rule.now.children c.args.rule.now.results c.flow_terms.new.graph _ _ _ _ _ _ _ _ _
-    (refilled c.join_children.new.flows c.truncate.new.self _ _ c.truncate.ensures c.in_ok-flow_terms.ensures) (or_true _ c.in_ok-first.first c.if-then.true) c.in_ok-first.ensures c.join_flows-then.ensures
+    (refilled c.join_children.new.flows c.truncate.new.self _ _ c.truncate.ensures c.in_ok-flow_terms.ensures)
+    (or_true _ c.in_ok-first.first c.if-then.true) c.in_ok-first.ensures c.join_flows-then.ensures
 
 pub returns-else-then : goal.returns-else-then
 returns-else-then c =
     joins_steps c.args.entries.now c.args.io.now c.args.rule.now.children c.args.rule.now.results c.flow_terms.new.graph _ _ _ _ _ _ _ _ _
-    (refilled c.join_children.new.flows c.truncate.new.self _ _ c.truncate.ensures c.in_ok-flow_terms.ensures) (or_false c.join_flows-then.result _ c.if-then.false) c.in_ok-first.ensures c.join_flows-then.ensures
+    (refilled c.join_children.new.flows c.truncate.new.self _ _ c.truncate.ensures c.in_ok-flow_terms.ensures)
+    (or_false c.join_flows-then.result _ c.if-then.false) c.in_ok-first.ensures c.join_flows-then.ensures

@@ -17,7 +17,8 @@ returns-clause-found g c file h role has =
     let from = 11 + c.len.result in
     let from_is : from ≡ 11 + length text = omega (arith, c.len.ensures, ap length c.in_ok-text.ensures) in
     let within : from < length file = omega (arith, from_is, ap length has.2, length-append (1 ∷ head role text) (has.0 ∷ has.1), length-head role text) in
-    resumed role text file from c.in_ok-found.found.gate (events_seen c.in_ok-found.found.events.items) has from_is (omega (arith, c.in_ok-found.ensures.fits)) c.in_ok-found.ensures.all (c.in_ok-found.ensures.found file h within)
+    resumed role text file from c.in_ok-found.found.gate (events_seen c.in_ok-found.found.events.items) has from_is
+    (omega (arith, c.in_ok-found.ensures.fits)) c.in_ok-found.ensures.all (c.in_ok-found.ensures.found file h within)
 
 pub returns-clause-open : goal.returns-clause-open
 returns-clause-open g c file h role has =

@@ -13,4 +13,5 @@ returns-then-stands-clause-opens g c =
     let D = g.D.Disk in
     let L = g.met.D.Disk in
     let h = c.in_ok-ask.ensures.only in
-    reopens_then D L.reads_an_outcome L.counts_now L.only_now c.args.role c.args.text.now c.args.limit c.args.disk.now c.ask.new.disk c.resume.new.disk c.resume.result h.quiet h.kept c.resume.ensures.opens
+    reopens_then D L.reads_an_outcome L.counts_now L.only_now c.args.role c.args.text.now c.args.limit c.args.disk.now c.ask.new.disk
+    c.resume.new.disk c.resume.result h.quiet h.kept c.resume.ensures.opens

@@ -12,8 +12,11 @@ pub returns-in-Done-clause-done : goal.returns-in-Done-clause-done
 returns-in-Done-clause-done g c is told =
     let D = g.D.Disk in
     let new = c.put_record.new.disk in
-    let closed = c.in-Done.ensures.done refl told in
-    (closed.rest, subst (λ (b : List ℕ). StandsAt D.tells D.seen D.may_leave new 0 [] (behind_gate b closed.rest) 1) c.deref.ensures.value (c.put_record.ensures.done is [] closed.rest closed.shut closed.stands))
+    let closed = c.in-Done.ensures.done refl told in (
+      closed.rest,
+      subst (λ (b : List ℕ). StandsAt D.tells D.seen D.may_leave new 0 [] (behind_gate b closed.rest) 1) c.deref.ensures.value
+          (c.put_record.ensures.done is [] closed.rest closed.shut closed.stands),
+    )
 
 pub returns-in-Done-clause-any_moment : goal.returns-in-Done-clause-any_moment
 returns-in-Done-clause-any_moment g c told role text fits is =

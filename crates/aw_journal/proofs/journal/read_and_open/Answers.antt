@@ -6,4 +6,5 @@ returns-clause-opens g c =
     let D = g.D.Disk in
     let L = g.met.D.Disk in
     let h = c.in_ok-reader.ensures.only in
-    reopens_then D L.reads_an_outcome L.counts_now L.only_now c.args.role c.args.text.now c.args.limit c.args.disk.now c.begin.new.disk c.open_file.new.disk c.open_file.result h.quiet h.kept c.open_file.ensures.opens
+    reopens_then D L.reads_an_outcome L.counts_now L.only_now c.args.role c.args.text.now c.args.limit c.args.disk.now c.begin.new.disk
+    c.open_file.new.disk c.open_file.result h.quiet h.kept c.open_file.ensures.opens

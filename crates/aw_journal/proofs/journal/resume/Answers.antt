@@ -93,7 +93,9 @@ returns-in-Done-clause-opens g c =
     let gate_open : IsTrue (D.tells old) → known.is_open ≡ (get_or file known.found.gate 0 == 1) = λ told. next.open file (reads told) role (own told) in
     let quiet = quiet_then D.tells D.seen D.may_leave D.moment D.left_since L.counts_now L.only_now old c.has_this_head.new.disk mid first.only.quiet next.only.quiet in
     let later : D.faults old ≤ D.faults mid = omega (arith, first.only.kept, next.only.kept) in
-    let made : c.made.result ≡ record { role = role; text = text; events = events; limit = c.args.limit; usable = true } = as_made c.made.result role c.args.limit text known.text events events c.made.ensures next.text refl in
+    let made : c.made.result ≡ record { role = role; text = text; events = events; limit = c.args.limit; usable = true } =
+    as_made c.made.result role c.args.limit text known.text events events c.made.ensures next.text refl in
     is_resumed D L.reads_an_outcome L.counts_now L.only_now role text c.args.limit old c.end_at.new.disk c.made.result known.found.gate events made c.requires.headed r
-    (settled_ended D L.reads_an_outcome L.counts_now L.only_now role text old mid quiet later c.requires.durable known.found.gate c.args.limit events known.is_open c.end_at.new.disk r gate_open (c.in-Done.ensures.done refl))
+    (settled_ended D L.reads_an_outcome L.counts_now L.only_now role text old mid quiet later c.requires.durable known.found.gate c.args.limit events
+    known.is_open c.end_at.new.disk r gate_open (c.in-Done.ensures.done refl))
     (c.in-Done.ensures.kept (λ e. cc) ∙ next.only.kept ∙ first.only.kept)

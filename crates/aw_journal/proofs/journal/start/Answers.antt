@@ -15,7 +15,13 @@ use Rattle.aw_journal.proofs.journal.start.Goals as goal
 
 pub made-requires-clause-gate : goal.made-requires-clause-gate
 made-requires-clause-gate g c =
-    omega (arith, length-front c.args.role c.in_ok-kept.field-0.text (events_seen c.new.result.items), ap (λ (es : List Event). length (records es)) (ap events_seen c.new.ensures.items), ap length c.in_ok-kept.ensures.text)
+    omega (
+      arith,
+      length-front c.args.role c.in_ok-kept.field-0.text (events_seen c.new.result.items),
+      ap (λ (es : List Event). length (records es))
+          (ap events_seen c.new.ensures.items),
+      ap length c.in_ok-kept.ensures.text,
+    )
 
 pub returns-in-Done-clause-keeps : goal.returns-in-Done-clause-keeps
 returns-in-Done-clause-keeps g c =
@@ -62,7 +68,8 @@ returns-in-Done-clause-opens g c =
     let limit = c.args.limit in
     let file = D.seen old in
     let none : IsTrue (D.tells old) → has_head file ≡ false = λ told. sym (headed_by_two file) ∙ ap has_head (sym (c.requires.read told)) ∙ c.requires.headless in
-    let made : c.made.result ≡ record { role = role; text = text; events = []; limit = limit; usable = true } = as_made c.made.result role limit text c.in_ok-kept.field-0.text [] c.new.result.items c.made.ensures c.in_ok-kept.ensures.text c.new.ensures.items in
+    let made : c.made.result ≡ record { role = role; text = text; events = []; limit = limit; usable = true } = as_made c.made.result role limit text
+    c.in_ok-kept.field-0.text [] c.new.result.items c.made.ensures c.in_ok-kept.ensures.text c.new.ensures.items in
     is_started D L.reads_an_outcome L.counts_now L.only_now role text limit old new c.made.result made none c.in_ok-kept.ensures.place
     (λ told.
     let stands = c.in-Done.ensures.done refl told in

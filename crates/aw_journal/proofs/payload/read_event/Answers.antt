@@ -8,7 +8,8 @@ use Rattle.aw_journal.specs.declared.payload.NodeEvent.{NodeEvent}
 use Rattle.aw_journal.proofs.Events.{event_taken}
 use Rattle.aw_journal.proofs.payload.read_event.Goals as goal
 
-spelled : (payload : List ℕ) (found : Option NodeEvent) → AreBytes payload → event_in payload ≡ option_map event_of found → MatchOption found ⊤ (λ e. (payload ≡ payload_of (event_of e)) × IsEvent (event_of e))
+spelled : (payload : List ℕ) (found : Option NodeEvent) → AreBytes payload → event_in payload ≡ option_map event_of found →
+    MatchOption found ⊤ (λ e. (payload ≡ payload_of (event_of e)) × IsEvent (event_of e))
 spelled payload None bytes is = tt
 spelled payload (Some e) bytes is = event_taken payload (event_of e) bytes is
 

@@ -16,7 +16,8 @@ loop-reader-preserved g c =
       most = c.take_held.ensures.most;
       only = read_ok g.P.Pages _ _ _ _ (read_then g.P.Pages g.met.P.Pages.read_on _ _ _ _ _ was.only c.in_ok-reach.ensures.only);
       holds = λ file told h. holds_same mid new same.0 same.1 same.2 same.3 file (c.in_ok-reach.ensures.holds file (was.only.same_bytes ∙ told) (was.holds file told h));
-      asked = λ file told h. c.in_ok-take_held.ensures.same file (c.in_ok-reach.ensures.holds file (was.only.same_bytes ∙ told) (was.holds file told h)).same (rw c.reach.ensures.asked.0 (was.asked file told h));
+      asked = λ file told h. c.in_ok-take_held.ensures.same file (c.in_ok-reach.ensures.holds file (was.only.same_bytes ∙ told)
+          (was.holds file told h)).same (rw c.reach.ensures.asked.0 (was.asked file told h));
     }
 
 pub returns-in_err-take_held-clause-only : goal.returns-in_err-take_held-clause-only

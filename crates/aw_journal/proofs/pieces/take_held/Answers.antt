@@ -23,7 +23,14 @@ returns-clause-same c file same is =
     let piece_is : piece ≡ take n (drop (at + length asked) file) =
     ap (λ (k : ℕ). take k (drop from c.deref.result.now)) count ∙ ap (λ (l : List ℕ). take n (drop from l)) c.deref.ensures.value
     ∙ piece_held r.ahead.items file r.held r.start from n (at + length asked) same fits (omega (arith, c.requires.start, long_asked)) in
-    let long : length piece ≡ n = ap (λ (k : ℕ). length (take k (drop from c.deref.result.now))) count ∙ length-take-le n (drop from c.deref.result.now) (omega (arith, length-drop from c.deref.result.now, ap length c.deref.ensures.value, fits, c.requires.room.fits)) in
+    let long : length piece ≡ n = ap (λ (k : ℕ). length (take k (drop from c.deref.result.now))) count
+    ∙ length-take-le n (drop from c.deref.result.now) (omega (
+      arith,
+      length-drop from c.deref.result.now,
+      ap length c.deref.ensures.value,
+      fits,
+      c.requires.room.fits,
+    )) in
     let all = taken_more file asked piece at (length asked) n is piece_is in
     let length_is : length asked + n ≡ length (asked ++ piece) = omega (arith, length-append asked piece, long) in
     extended c.extend_from_slice.result c.extend_from_slice.new.self.items (asked ++ piece) asked (λ (l : List ℕ). l ≡ take (length l) (drop at file)) c.extend_from_slice.ensures.items

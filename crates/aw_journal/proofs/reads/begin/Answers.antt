@@ -9,7 +9,9 @@ returns-in-Failed-clause-only g c =
     let L = g.met.D.Disk in
     let old = c.args.disk.now in
     record {
-      quiet = quiet_more D.tells D.seen D.may_leave D.moment D.left_since L.counts_now L.only_now old old c.size.new.self (quiet_none D.tells D.seen D.may_leave D.moment D.left_since L.counts_now L.only_now old) c.size.ensures.tells c.size.ensures.seen c.size.ensures.crash c.size.ensures.time;
+      quiet = quiet_more D.tells D.seen D.may_leave D.moment D.left_since L.counts_now L.only_now old old c.size.new.self
+          (quiet_none D.tells D.seen D.may_leave D.moment D.left_since L.counts_now L.only_now old) c.size.ensures.tells c.size.ensures.seen
+          c.size.ensures.crash c.size.ensures.time;
       never_falls = c.size.ensures.never_falls;
       cause = c.in-Failed.ensures.cause refl;
       kept = tt;
@@ -30,7 +32,9 @@ returns-clause-only g c =
     let L = g.met.D.Disk in
     let old = c.args.disk.now in
     record {
-      quiet = quiet_more D.tells D.seen D.may_leave D.moment D.left_since L.counts_now L.only_now old old c.size.new.self (quiet_none D.tells D.seen D.may_leave D.moment D.left_since L.counts_now L.only_now old) c.size.ensures.tells c.size.ensures.seen c.size.ensures.crash c.size.ensures.time;
+      quiet = quiet_more D.tells D.seen D.may_leave D.moment D.left_since L.counts_now L.only_now old old c.size.new.self
+          (quiet_none D.tells D.seen D.may_leave D.moment D.left_since L.counts_now L.only_now old) c.size.ensures.tells c.size.ensures.seen
+          c.size.ensures.crash c.size.ensures.time;
       never_falls = c.size.ensures.never_falls;
       cause = tt;
       kept = c.in-Bytes.ensures.kept (λ e. cc);

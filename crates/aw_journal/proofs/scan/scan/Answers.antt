@@ -23,7 +23,15 @@ loop-events-preserved g c =
     let pushed : events_seen c.add.new.events.items ≡ had ++ event_of event ∷ [] = ap events_seen c.in_ok-add.ensures ∙ events_push c.loop-events.events.items event in
     record {
       room = c.next_event.ensures.room;
-      place = omega (arith, was.place, next.0, ap (λ (es : List Event). length (records es)) pushed, ap length (records_push had (event_of event)), length-append (records had) (1 ∷ record_of (event_of event)), length-spelled (event_of event));
+      place = omega (
+        arith,
+        was.place,
+        next.0,
+        ap (λ (es : List Event). length (records es)) pushed,
+        ap length (records_push had (event_of event)),
+        length-append (records had) (1 ∷ record_of (event_of event)),
+        length-spelled (event_of event),
+      );
       fits = omega (arith, next.1, was.room.small);
       all = subst AllEvents (sym pushed) (all_push had (event_of event) was.all good);
       quiet = quiet_then D.tells D.seen D.may_leave D.moment D.left_since L.counts_now L.only_now c.args.disk.now c.loop-events.disk c.next_event.new.disk was.quiet c.in_ok-event.ensures.only.quiet;

@@ -15,7 +15,11 @@ returns-clause-found c file h =
     let is : piece ≡ take n (drop c.args.place file) =
     ap (λ (l : List ℕ). take n (drop from l)) c.deref.ensures.value
     ∙ piece_held r.ahead.items file r.held r.start from n c.args.place h.same (omega (arith, c.requires.held, c.requires.start)) (omega (arith, c.requires.start)) in
-    let long : n ≡ length piece = omega (arith, length-take-le n (drop from c.deref.result.now) (omega (arith, length-drop from c.deref.result.now, ap length c.deref.ensures.value, c.requires.room.fits))) in
+    let long : n ≡ length piece = omega (
+      arith,
+      length-take-le n (drop from c.deref.result.now)
+          (omega (arith, length-drop from c.deref.result.now, ap length c.deref.ensures.value, c.requires.room.fits)),
+    ) in
     let found = found_held file piece c.args.place n c.memchr.result is long c.memchr.ensures in
     (rw c.in_ok-at.was at found).1
 
@@ -28,7 +32,11 @@ returns-in_err-at-clause-found c file h =
     let is : piece ≡ take n (drop c.args.place file) =
     ap (λ (l : List ℕ). take n (drop from l)) c.deref.ensures.value
     ∙ piece_held r.ahead.items file r.held r.start from n c.args.place h.same (omega (arith, c.requires.held, c.requires.start)) (omega (arith, c.requires.start)) in
-    let long : n ≡ length piece = omega (arith, length-take-le n (drop from c.deref.result.now) (omega (arith, length-drop from c.deref.result.now, ap length c.deref.ensures.value, c.requires.room.fits))) in
+    let long : n ≡ length piece = omega (
+      arith,
+      length-take-le n (drop from c.deref.result.now)
+          (omega (arith, length-drop from c.deref.result.now, ap length c.deref.ensures.value, c.requires.room.fits)),
+    ) in
     let found = found_held file piece c.args.place n c.memchr.result is long c.memchr.ensures in
     let none = rw c.in_err-at.was at found in
     let there : c.args.place + n ≡ r.start + r.held = omega (arith, c.requires.held, c.requires.start) in

@@ -12,12 +12,14 @@ cut_synced-requires g c told =
 
 pub returns-in-Failed-clause-any_moment : goal.returns-in-Failed-clause-any_moment
 returns-in-Failed-clause-any_moment g c before rest gate stands =
-    weaker g.D.Disk.moment g.D.Disk.left_since c.args.disk.now c.shut_gate.new.disk _ (IsEnded before rest gate c.args.is_open) (c.shut_gate.ensures.any_moment before rest gate stands) (shut_ended before rest gate c.args.is_open)
+    weaker g.D.Disk.moment g.D.Disk.left_since c.args.disk.now c.shut_gate.new.disk _ (IsEnded before rest gate c.args.is_open)
+    (c.shut_gate.ensures.any_moment before rest gate stands) (shut_ended before rest gate c.args.is_open)
 
 pub returns-in-Done-clause-any_moment : goal.returns-in-Done-clause-any_moment
 returns-in-Done-clause-any_moment g c before rest gate stands =
     let P = IsEnded before rest gate c.args.is_open in
-    let first = weaker g.D.Disk.moment g.D.Disk.left_since c.args.disk.now c.shut_gate.new.disk _ P (c.shut_gate.ensures.any_moment before rest gate stands) (shut_ended before rest gate c.args.is_open) in
+    let first = weaker g.D.Disk.moment g.D.Disk.left_since c.args.disk.now c.shut_gate.new.disk _ P (c.shut_gate.ensures.any_moment before rest gate
+    stands) (shut_ended before rest gate c.args.is_open) in
     runs_on g.D.Disk.moment g.D.Disk.left_since c.args.disk.now c.shut_gate.new.disk c.cut_synced.new.disk P _ first c.cut_synced.ensures.any_moment
     (ended before rest gate c.args.place c.args.is_open (g.D.Disk.may_leave c.shut_gate.new.disk) stands.place_is (c.shut_gate.ensures.crash before rest gate stands))
 

@@ -14,4 +14,5 @@ returns-then-is_open-clause-any_moment g c before rest gate stands =
     let old = c.args.disk.now in
     let P = IsShut before rest gate c.args.is_open in
     let begun = started g.D.Disk.moment g.D.Disk.left_since old P (λ f left. (gate, stands.durable f (g.met.D.Disk.only_now old f left) ∙ stands.is, inl refl)) in
-    goes_on g.D.Disk.moment g.D.Disk.left_since old old c.write_at.new.self P _ begun c.write_at.ensures.time (g.met.D.Disk.counts_now c.write_at.new.self) (λ f now. returns-then-is_open-clause-crash g c before rest gate stands f now)
+    goes_on g.D.Disk.moment g.D.Disk.left_since old old c.write_at.new.self P _ begun c.write_at.ensures.time
+    (g.met.D.Disk.counts_now c.write_at.new.self) (λ f now. returns-then-is_open-clause-crash g c before rest gate stands f now)

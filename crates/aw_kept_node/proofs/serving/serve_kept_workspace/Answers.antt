@@ -17,7 +17,8 @@ returns-clause-served g c s shown =
       same_limit = h.made.2;
       settled = h.settled;
       moments = c.reopen.ensures.any_moment;
-      first_sync = λ told. synced-by g.W.Wire g.D.Disk (rules_of c.args.g.now.grammar c.args.t.now) c.args.role c.args.text.now s c.args.disk.now g.met.D.Disk.only_now c.reopen.new.disk c.in_ok-journal.journal
+      first_sync = λ told. synced-by g.W.Wire g.D.Disk (rules_of c.args.g.now.grammar c.args.t.now) c.args.role c.args.text.now s c.args.disk.now
+          g.met.D.Disk.only_now c.reopen.new.disk c.in_ok-journal.journal
           (c.reopen.ensures.any_moment told) (c.reopen.ensures.first_sync told) (h.settled told) (c.reopen.ensures.reads_same told);
       images = c.reopen.ensures.images;
       reads = c.reopen.ensures.reads_same;
@@ -36,7 +37,8 @@ returns-clause-stopped g c s shown =
       same_limit = h.made.2;
       settled = h.settled;
       moments = c.reopen.ensures.any_moment;
-      first_sync = λ told. synced-by g.W.Wire g.D.Disk (rules_of c.args.g.now.grammar c.args.t.now) c.args.role c.args.text.now s c.args.disk.now g.met.D.Disk.only_now c.reopen.new.disk c.in_ok-journal.journal
+      first_sync = λ told. synced-by g.W.Wire g.D.Disk (rules_of c.args.g.now.grammar c.args.t.now) c.args.role c.args.text.now s c.args.disk.now
+          g.met.D.Disk.only_now c.reopen.new.disk c.in_ok-journal.journal
           (c.reopen.ensures.any_moment told) (c.reopen.ensures.first_sync told) (h.settled told) (c.reopen.ensures.reads_same told);
       images = c.reopen.ensures.images;
       reads = c.reopen.ensures.reads_same;

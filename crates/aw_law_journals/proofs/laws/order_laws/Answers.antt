@@ -9,4 +9,5 @@ returns-clause-sites c = λ words t g a.
 
 pub returns-clause-trace : goal.returns-clause-trace
 returns-clause-trace c = λ words t g a.
-    order_leaves_no_trace t g (given g (c.world_laws.ensures.invariant words g a) (c.world_laws.ensures.knowledge words g a) (c.world_laws.ensures.homes words g a)) (c.site_laws.ensures.fold g) (c.site_laws.ensures.refusals g)
+    order_leaves_no_trace t g (given g (c.world_laws.ensures.invariant words g a) (c.world_laws.ensures.knowledge words g a)
+    (c.world_laws.ensures.homes words g a)) (c.site_laws.ensures.fold g) (c.site_laws.ensures.refusals g)

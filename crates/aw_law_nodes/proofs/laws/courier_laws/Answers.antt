@@ -15,7 +15,8 @@ returns-clause-bytes c = bytes_are_heard
 
 pub returns-clause-ends : goal.returns-clause-ends
 returns-clause-ends c = λ words g a size loads.
-    rounds_are_bounded g size (given g (c.world_laws.ensures.invariant words g a) (c.world_laws.ensures.knowledge words g a) (c.world_laws.ensures.homes words g a)) loads (c.merge_laws.ensures.bound words g a)
+    rounds_are_bounded g size (given g (c.world_laws.ensures.invariant words g a) (c.world_laws.ensures.knowledge words g a)
+    (c.world_laws.ensures.homes words g a)) loads (c.merge_laws.ensures.bound words g a)
 
 pub returns-clause-encodable : goal.returns-clause-encodable
 returns-clause-encodable c = messages_are_encodable

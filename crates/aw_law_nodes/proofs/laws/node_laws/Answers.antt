@@ -12,4 +12,5 @@ pub returns-clause-own : goal.returns-clause-own
 returns-clause-own c = λ g. own_sessions g
 
 pub returns-clause-outboxes : goal.returns-clause-outboxes
-returns-clause-outboxes c = λ words g a loads. messages_are_outboxes g (given g (c.world_laws.ensures.invariant words g a) (c.world_laws.ensures.knowledge words g a) (c.world_laws.ensures.homes words g a)) loads
+returns-clause-outboxes c = λ words g a loads. messages_are_outboxes g (given g (c.world_laws.ensures.invariant words g a)
+    (c.world_laws.ensures.knowledge words g a) (c.world_laws.ensures.homes words g a)) loads

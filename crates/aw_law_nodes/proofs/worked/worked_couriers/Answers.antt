@@ -7,7 +7,11 @@ is_quiet = (
   record {
     each = (refl, tt);
     one = refl;
-    turns = (refl, ((omega arith, omega arith), ((omega arith, omega arith), (tt, tt))), (refl, ((omega arith, omega arith), ((omega arith, omega arith), (tt, tt))), (refl, (tt, tt), (refl, (tt, tt), tt))));
+    turns = (
+      refl,
+      ((omega arith, omega arith), ((omega arith, omega arith), (tt, tt))),
+      (refl, ((omega arith, omega arith), ((omega arith, omega arith), (tt, tt))), (refl, (tt, tt), (refl, (tt, tt), tt))),
+    );
     moving = (omega arith, tt);
     still = refl;
   },

@@ -12,7 +12,8 @@ returns-clause-is_back c = (refl, refl)
 pub returns-clause-goes_on : goal.returns-clause-goes_on
 returns-clause-goes_on c = (refl, refl, refl)
 
-may : (r n : ℕ) (ps : List Posted) → Each (λ (p : Posted). is_dropped r n p.from p.event ≡ true → p.deliveries ≡ []) ps → (p : Posted) → Member p ps → is_dropped r n p.from p.event ≡ true → p.deliveries ≡ []
+may : (r n : ℕ) (ps : List Posted) → Each (λ (p : Posted). is_dropped r n p.from p.event ≡ true → p.deliveries ≡ []) ps → (p : Posted) → Member p ps →
+    is_dropped r n p.from p.event ≡ true → p.deliveries ≡ []
 may r n ps e p m = each_member (λ (p : Posted). is_dropped r n p.from p.event ≡ true → p.deliveries ≡ []) ps p e m
 
 lab_may : MayGoBack 1 1 before_it

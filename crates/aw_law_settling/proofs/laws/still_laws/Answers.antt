@@ -13,11 +13,13 @@ returns-clause-holds c = λ words g a.
 
 pub returns-clause-answers : goal.returns-clause-answers
 returns-clause-answers c = λ words g a.
-    still_answers g (c.world_laws.ensures.invariant words g a) (c.merge_laws.ensures.bound words g a) (c.merge_laws.ensures.settles g) (c.merge_laws.ensures.quiet words g a) (c.merge_laws.ensures.answers words g a)
+    still_answers g (c.world_laws.ensures.invariant words g a) (c.merge_laws.ensures.bound words g a) (c.merge_laws.ensures.settles g)
+    (c.merge_laws.ensures.quiet words g a) (c.merge_laws.ensures.answers words g a)
 
 pub returns-clause-worklists : goal.returns-clause-worklists
 returns-clause-worklists c = λ words g a.
-    still_worklists g (c.world_laws.ensures.invariant words g a) (c.merge_laws.ensures.bound words g a) (c.merge_laws.ensures.settles g) (c.merge_laws.ensures.quiet words g a) (c.merge_laws.ensures.worklists words g a)
+    still_worklists g (c.world_laws.ensures.invariant words g a) (c.merge_laws.ensures.bound words g a) (c.merge_laws.ensures.settles g)
+    (c.merge_laws.ensures.quiet words g a) (c.merge_laws.ensures.worklists words g a)
 
 pub returns-clause-artifacts : goal.returns-clause-artifacts
 returns-clause-artifacts c = λ words g a.

@@ -14,4 +14,5 @@ returns-clause-crashes c = λ words g a.
 
 pub returns-clause-joint : goal.returns-clause-joint
 returns-clause-joint c = λ words t g a.
-    journals_are_joint t g (system_is_one_world g (given g (c.world_laws.ensures.invariant words g a) (c.world_laws.ensures.knowledge words g a) (c.world_laws.ensures.homes words g a)) (c.crash_laws.ensures.world g) true)
+    journals_are_joint t g (system_is_one_world g (given g (c.world_laws.ensures.invariant words g a) (c.world_laws.ensures.knowledge words g a)
+    (c.world_laws.ensures.homes words g a)) (c.crash_laws.ensures.world g) true)

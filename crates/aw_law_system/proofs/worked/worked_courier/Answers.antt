@@ -6,7 +6,11 @@ returns-clause-quiet c = (
   record {
     each = (refl, tt);
     one = refl;
-    turns = (refl, ((omega arith, omega arith), ((omega arith, omega arith), (tt, tt))), (refl, ((omega arith, omega arith), ((omega arith, omega arith), (tt, tt))), (refl, (tt, tt), (refl, (tt, tt), tt))));
+    turns = (
+      refl,
+      ((omega arith, omega arith), ((omega arith, omega arith), (tt, tt))),
+      (refl, ((omega arith, omega arith), ((omega arith, omega arith), (tt, tt))), (refl, (tt, tt), (refl, (tt, tt), tt))),
+    );
     moving = (omega arith, tt);
     still = refl;
   },
@@ -32,7 +36,22 @@ returns-clause-quiet c = (
                       (omega arith, omega arith, omega arith),
                       (
                         (omega arith, tt),
-                        ((omega arith, tt), ((omega arith, omega arith, omega arith), ((omega arith, inl refl), ((omega arith, tt), ((omega arith, omega arith, omega arith), ((omega arith, omega arith, omega arith), tt)))))),
+                        (
+                          (omega arith, tt),
+                          (
+                            (omega arith, omega arith, omega arith),
+                            (
+                              (omega arith, inl refl),
+                              (
+                                (omega arith, tt),
+                                (
+                                  (omega arith, omega arith, omega arith),
+                                  ((omega arith, omega arith, omega arith), tt),
+                                ),
+                              ),
+                            ),
+                          ),
+                        ),
                       ),
                     ),
                   ),

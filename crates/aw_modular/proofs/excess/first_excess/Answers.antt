@@ -19,7 +19,8 @@ pub returns-then-is_loose : goal.returns-then-is_loose
 returns-then-is_loose c =
     let P = IsLoose c.args.part.now c.args.all.now c.args.found.now in
     let pair = c.pair_at-pair in
-    here_least P (loose_numbers c.args.part.now c.args.all.now c.args.found.now) c.loop-place.place c.loop-place.invariant pair.result pair.ensures.place pair.ensures.inherited pair.ensures.result (c.is_loose.ensures.0 c.if-is_loose.true)
+    here_least P (loose_numbers c.args.part.now c.args.all.now c.args.found.now) c.loop-place.place c.loop-place.invariant pair.result
+    pair.ensures.place pair.ensures.inherited pair.ensures.result (c.is_loose.ensures.0 c.if-is_loose.true)
 
 pub returns : goal.returns
 returns c t loose =

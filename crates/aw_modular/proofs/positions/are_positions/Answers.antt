@@ -15,11 +15,14 @@ pub loop-triple-preserved : goal.loop-triple-preserved
 loop-triple-preserved c =
     let xs = c.as_slice-triple-items.result.now in
     positions_more (IsPosition (grammar_of c.args.g.now).sorts) c.args.declared.now c.loop-triple.triple-index (slice_index_or xs c.loop-triple.triple-index zeros)
-    (item_got xs c.args.declared.now c.loop-triple.triple-index zeros c.as_slice-triple-items.ensures c.loop-triple-test.true) c.loop-triple.invariant (c.is_position.ensures.0 c.if-not-is_position.false)
+    (item_got xs c.args.declared.now c.loop-triple.triple-index zeros c.as_slice-triple-items.ensures c.loop-triple-test.true) c.loop-triple.invariant
+    (c.is_position.ensures.0 c.if-not-is_position.false)
 
 pub returns : goal.returns
 returns c = (
-  λ yes'. each_got (IsPosition (grammar_of c.args.g.now).sorts) c.args.declared.now c.loop-triple.triple-index (all_read c.as_slice-triple-items.result.now c.args.declared.now c.loop-triple.triple-index c.as_slice-triple-items.ensures c.loop-triple-test.false) c.loop-triple.invariant,
+  λ yes'. each_got (IsPosition (grammar_of c.args.g.now).sorts) c.args.declared.now c.loop-triple.triple-index
+      (all_read c.as_slice-triple-items.result.now c.args.declared.now c.loop-triple.triple-index c.as_slice-triple-items.ensures
+      c.loop-triple-test.false) c.loop-triple.invariant,
   λ each. refl,
 )
 
@@ -28,5 +31,7 @@ returns-then-not-is_position c = (
   λ e. absurd (false≢true e),
   λ each.
       let xs = c.as_slice-triple-items.result.now in
-      absurd (false≢true (sym c.if-not-is_position.true ∙ c.is_position.ensures.1 (each_at (IsPosition (grammar_of c.args.g.now).sorts) c.args.declared.now c.loop-triple.triple-index (slice_index_or xs c.loop-triple.triple-index zeros) each (item_got xs c.args.declared.now c.loop-triple.triple-index zeros c.as_slice-triple-items.ensures c.loop-triple-test.true)))),
+      absurd (false≢true (sym c.if-not-is_position.true ∙ c.is_position.ensures.1 (each_at (IsPosition (grammar_of c.args.g.now).sorts)
+      c.args.declared.now c.loop-triple.triple-index (slice_index_or xs c.loop-triple.triple-index zeros) each
+      (item_got xs c.args.declared.now c.loop-triple.triple-index zeros c.as_slice-triple-items.ensures c.loop-triple-test.true)))),
 )

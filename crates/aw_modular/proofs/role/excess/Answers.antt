@@ -10,4 +10,5 @@ returns c =
     let p = c.args.part.now in
     let all = c.in_ok-all.all in
     least_same (IsLoose p all c.args.found.now) (IsExcess p.faces.offers c.args.declared.now p.role (grammar_of p.grammar)) c.first_excess.result
-    (loose_is_excess p c.args.declared.now all c.args.found.now c.in_ok-all.ensures c.requires.known) (excess_is_loose p c.args.declared.now all c.args.found.now c.in_ok-all.ensures c.requires.known) c.first_excess.ensures
+    (loose_is_excess p c.args.declared.now all c.args.found.now c.in_ok-all.ensures c.requires.known)
+    (excess_is_loose p c.args.declared.now all c.args.found.now c.in_ok-all.ensures c.requires.known) c.first_excess.ensures

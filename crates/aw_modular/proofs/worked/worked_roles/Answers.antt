@@ -41,7 +41,19 @@ returns-clause-others_say_yes c = (
 )
 
 desk_found : RoleRelation desk.grammar 2 (Declares few) 2 2 1
-desk_found = (1, (refl, (file, inr (inl refl), refl, more (text 1 _ refl refl (inr (inl refl))) (more (call 1 1 1 _ refl (inr ((λ e. absurd cc), inr (inr (inl refl))))) (step (text 2 _ refl refl refl))))))
+desk_found = (
+  1,
+  (
+    refl,
+    (
+      file,
+      inr (inl refl),
+      refl,
+      more (text 1 _ refl refl (inr (inl refl)))
+          (more (call 1 1 1 _ refl (inr ((λ e. absurd cc), inr (inr (inl refl))))) (step (text 2 _ refl refl refl))),
+    ),
+  ),
+)
 
 not_declared : Declares few 2 2 1 → Never
 not_declared (inl e) = let f : 2 ≡ 1 = ap (λ (t : Triple). t.sort) e in absurd (omega (arith, f))

@@ -12,7 +12,8 @@ loop-smaller c =
 
 pub loop-preserved : goal.loop-preserved
 loop-preserved c =
-    let t = subst (λ b. TakesOne b c.loop.reader (map frame_of c.loop.frames.items) c.take_frame.new.reader (map frame_of c.take_frame.new.frames.items)) c.if-branch.true c.in_ok-take_frame.ensures in (
+    let t = subst (λ b. TakesOne b c.loop.reader (map frame_of c.loop.frames.items) c.take_frame.new.reader
+    (map frame_of c.take_frame.new.frames.items)) c.if-branch.true c.in_ok-take_frame.ensures in (
       λ e. absurd (both_ways c.take_frame.new.reader.failed t.2 e),
       λ bytes h. subst (λ fs. Yields bytes fs c.take_frame.new.reader.bytes) (sym t.3)
           (yields_one bytes (map frame_of c.loop.frames.items) c.loop.reader.bytes t.0 c.take_frame.new.reader.bytes (c.loop.invariant.1 bytes h) t.1),

@@ -11,7 +11,8 @@ pub returns-in_ok-add_byte-in-Same-clause-ok : goal.returns-in_ok-add_byte-in-Sa
 returns-in_ok-add_byte-in-Same-clause-ok c =
     let old = c.args.text.now in
     on_ok_weaker c.add_ref.result
-    (λ e. two old (0 ∷ []) (spelled_ref c.in-Same.reference) c.add_byte.new.text c.add_ref.new.text c.in_ok-add_byte-in-Same.ensures.ok e ∙ ap (λ b. old ++ spelled_body (body_of b)) (sym c.in-Same.is))
+    (λ e. two old (0 ∷ []) (spelled_ref c.in-Same.reference) c.add_byte.new.text c.add_ref.new.text c.in_ok-add_byte-in-Same.ensures.ok e
+    ∙ ap (λ b. old ++ spelled_body (body_of b)) (sym c.in-Same.is))
     c.add_ref.ensures.ok
 
 pub returns-in_ok-add_u16-in-Con-clause-err : goal.returns-in_ok-add_u16-in-Con-clause-err

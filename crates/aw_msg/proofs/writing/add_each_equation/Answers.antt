@@ -10,15 +10,18 @@ use Rattle.aw_msg.proofs.writing.add_each_equation.Goals as goal
 
 pub add_equation-requires : goal.add_equation-requires
 add_equation-requires c =
-    subst (λ e. EquationInRange (equation_of e)) (sym c.equation-item.is) (each_at EquationInRange equation_of c.args.equations.now c.loop-equation.equation-index c.equation-item.result c.loop-equation-test.true c.requires)
+    subst (λ e. EquationInRange (equation_of e)) (sym c.equation-item.is) (each_at EquationInRange equation_of c.args.equations.now
+    c.loop-equation.equation-index c.equation-item.result c.loop-equation-test.true c.requires)
 
 pub loop-equation-preserved : goal.loop-equation-preserved
 loop-equation-preserved c = record {
   added =
-      one_more (λ e. spelled_equation (equation_of e)) c.args.equations.now c.loop-equation.equation-index c.equation-item.result c.args.text.now c.loop-equation.text c.add_equation.new.text c.loop-equation-test.true c.equation-item.is
+      one_more (λ e. spelled_equation (equation_of e)) c.args.equations.now c.loop-equation.equation-index c.equation-item.result c.args.text.now
+      c.loop-equation.text c.add_equation.new.text c.loop-equation-test.true c.equation-item.is
       c.loop-equation.invariant.added c.in_ok-add_equation.ensures.ok;
   sized =
-      each_more_seen EquationSized equation_of c.args.equations.now c.loop-equation.equation-index c.equation-item.result c.loop-equation-test.true c.equation-item.is c.loop-equation.invariant.sized c.in_ok-add_equation.ensures.sized;
+      each_more_seen EquationSized equation_of c.args.equations.now c.loop-equation.equation-index c.equation-item.result c.loop-equation-test.true
+      c.equation-item.is c.loop-equation.invariant.sized c.in_ok-add_equation.ensures.sized;
 }
 
 pub returns-clause-ok : goal.returns-clause-ok

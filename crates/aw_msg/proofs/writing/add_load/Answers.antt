@@ -10,7 +10,8 @@ use Rattle.aw_msg.proofs.writing.add_load.Goals as goal
 pub returns-clause-ok : goal.returns-clause-ok
 returns-clause-ok c =
     on_ok_weaker c.add_each_equation.result
-    (λ e. load_added c.args.load.now c.is_empty.result c.len.result c.args.text.now c.add_byte.new.text c.add_each_equation.new.text c.is_empty.ensures c.if-is_empty.false c.len.ensures c.in_ok-add_byte.ensures.ok
+    (λ e. load_added c.args.load.now c.is_empty.result c.len.result c.args.text.now c.add_byte.new.text c.add_each_equation.new.text
+    c.is_empty.ensures c.if-is_empty.false c.len.ensures c.in_ok-add_byte.ensures.ok
     (e ∙ ap (λ es. c.add_byte.new.text ++ flat_map spelled_equation (map equation_of es)) c.as_slice.ensures))
     c.add_each_equation.ensures.ok
 

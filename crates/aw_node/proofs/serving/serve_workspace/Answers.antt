@@ -15,7 +15,8 @@ returns-in-Err-NetFault-clause-stopped g c s shown =
 pub returns-clause-stopped : goal.returns-clause-stopped
 returns-clause-stopped g c s shown =
     node-cut-off _ (λ n. g.P.Workspace.shows n.site) (λ n. rules_of n.accepted.now.grammar n.typed.now) _ (λ n m f x a. (a.0, rules-same _ _ _ _ a.1 a.2)) (rules_of c.args.g.now.grammar c.args.t.now)
-    _ _ _ g.W.Wire.failed_openings _ _ _ s _ _ _ (rw c.in-Err-Node.field-0-is at c.in-Err-Node.ensures.err) (rw c.new-node.ensures.site shown) (rules-same _ _ _ _ c.new-node.ensures.accepted c.new-node.ensures.typed)
+    _ _ _ g.W.Wire.failed_openings _ _ _ s _ _ _ (rw c.in-Err-Node.field-0-is at c.in-Err-Node.ensures.err) (rw c.new-node.ensures.site shown)
+    (rules-same _ _ _ _ c.new-node.ensures.accepted c.new-node.ensures.typed)
 
 pub returns-clause-stays : goal.returns-clause-stays
 returns-clause-stays g c = c.served_nodes.ensures.stays (rules_of c.args.g.now.grammar c.args.t.now)

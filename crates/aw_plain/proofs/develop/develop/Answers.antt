@@ -32,7 +32,8 @@ returns-clause-ok c =
     ∙ developed n r rule (values_of c.args.bound) args (config_of c.args.rows.now.items) (values_of c.in_ok-env.env.items) results
     (config_of c.in_ok-open.open.items) (config_of c.in_ok-children.children.items) (config_of c.apply.new.rows.items)
     (c.in_ok-env.ensures ∙ ap (λ gs. env n r rule (values_of c.args.bound) (map ground_of gs)) c.as_slice.ensures)
-    (c.in_ok-results.ensures ∙ ap (λ es. map (fill (values_of c.as_slice-3.result.now)) (map term_of es)) c.as_slice-2.ensures ∙ ap (λ ts. map (fill (values_of ts)) rule.results) c.as_slice-3.ensures.value)
+    (c.in_ok-results.ensures ∙ ap (λ es. map (fill (values_of c.as_slice-3.result.now)) (map term_of es)) c.as_slice-2.ensures
+    ∙ ap (λ ts. map (fill (values_of ts)) rule.results) c.as_slice-3.ensures.value)
     (c.in_ok-open.ensures ∙ ap (λ ts. child_rows n r (values_of ts) 1 rule.children) c.as_slice-4.ensures.value)
     (c.in_ok-children.ensures ∙ ap (λ ts. map (row_fed n (values_of ts)) (config_of c.in_ok-open.open.items)) given)
     (ap config_of (c.apply.ensures.items ∙ ap (λ rows. changed rows c.in_ok-changed.changed.items) (c.reserve.ensures.items ∙ sym held))

@@ -6,4 +6,5 @@ use Rattle.aw_plain_rows.specs.Rounds.{row_fed}
 use Rattle.aw_plain.proofs.develop.put_each.Given as goal
 
 abbrev pub invariant-loop-row : goal.invariant-loop-row
-invariant-loop-row l = config_of l.replaced.items ++ map (row_fed l.node (values_of l.results)) (config_of (into_iter_items l.row-iterator)) ≡ map (row_fed l.node (values_of l.results)) (config_of l.fn.rows.items)
+invariant-loop-row l = config_of l.replaced.items ++ map (row_fed l.node (values_of l.results)) (config_of (into_iter_items l.row-iterator)) ≡ map
+    (row_fed l.node (values_of l.results)) (config_of l.fn.rows.items)

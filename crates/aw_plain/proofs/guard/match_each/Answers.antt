@@ -28,7 +28,8 @@ returns-in-Waits c =
     let ts = c.args.inherited.now in
     let i = c.loop-i.i in
     let lt : i < length ps = c.loop-i-test.true in
-    guard_step (i + 1) i ps ts _ _ (values_of c.loop-i.taken.items) _ _ lt (omega (arith, lt, c.requires.same)) c.index-patterns-i.is c.index-inherited-i.is (ap matched_of (sym c.in-Waits.is) ∙ c.in_ok-found.ensures) c.loop-i.invariant
+    guard_step (i + 1) i ps ts _ _ (values_of c.loop-i.taken.items) _ _ lt (omega (arith, lt, c.requires.same)) c.index-patterns-i.is
+    c.index-inherited-i.is (ap matched_of (sym c.in-Waits.is) ∙ c.in_ok-found.ensures) c.loop-i.invariant
 
 pub returns-in-Differs : goal.returns-in-Differs
 returns-in-Differs c =
@@ -36,4 +37,5 @@ returns-in-Differs c =
     let ts = c.args.inherited.now in
     let i = c.loop-i.i in
     let lt : i < length ps = c.loop-i-test.true in
-    guard_step (i + 1) i ps ts _ _ (values_of c.loop-i.taken.items) (Differs (path_of c.in-Differs.path)) _ lt (omega (arith, lt, c.requires.same)) c.index-patterns-i.is c.index-inherited-i.is (ap matched_of (sym c.in-Differs.is) ∙ c.in_ok-found.ensures) c.loop-i.invariant
+    guard_step (i + 1) i ps ts _ _ (values_of c.loop-i.taken.items) (Differs (path_of c.in-Differs.path)) _ lt (omega (arith, lt, c.requires.same))
+    c.index-patterns-i.is c.index-inherited-i.is (ap matched_of (sym c.in-Differs.is) ∙ c.in_ok-found.ensures) c.loop-i.invariant

@@ -73,7 +73,8 @@ match_parts-loop-i-preserved t c =
     ap (λ us. and_then (Yes (values_of us)) (behind q (from (i + 1 + 1) (i + 1) ps ts))) c.in_ok-append-in-Yes.ensures
     ∙ more_taken old found _
     ∙ ap (λ n. and_then (Yes (values_of old)) (and_then (Yes (values_of found)) (behind q (from n (i + 1) ps ts)))) (omega arith)
-    ∙ one_more q (i + 1) i ps ts c.index-parts-i.result c.index-trees-i.result (values_of old) (Yes (values_of found)) _ lt (omega (arith, lt, c.requires.same)) c.index-parts-i.is c.index-trees-i.is em c.loop-i.invariant
+    ∙ one_more q (i + 1) i ps ts c.index-parts-i.result c.index-trees-i.result (values_of old) (Yes (values_of found)) _ lt
+    (omega (arith, lt, c.requires.same)) c.index-parts-i.is c.index-trees-i.is em c.loop-i.invariant
 
 pub match_parts-returns-in-Waits : goal.match_parts-returns-in-Waits
 match_parts-returns-in-Waits t c =
@@ -84,7 +85,8 @@ match_parts-returns-in-Waits t c =
     let lt : i < length ps = c.loop-i-test.true in
     let em =
     ap matched_of (sym c.in-Waits.is) ∙ c.in_ok-found.ensures ∙ ap (λ path. behind path (match (pattern_of c.index-parts-i.result) (value_of c.index-trees-i.result))) c.push.ensures.steps in
-    one_more q (i + 1) i ps ts c.index-parts-i.result c.index-trees-i.result (values_of c.loop-i.taken.items) _ _ lt (omega (arith, lt, c.requires.same)) c.index-parts-i.is c.index-trees-i.is em c.loop-i.invariant
+    one_more q (i + 1) i ps ts c.index-parts-i.result c.index-trees-i.result (values_of c.loop-i.taken.items) _ _ lt
+    (omega (arith, lt, c.requires.same)) c.index-parts-i.is c.index-trees-i.is em c.loop-i.invariant
 
 pub match_parts-returns-in-Differs : goal.match_parts-returns-in-Differs
 match_parts-returns-in-Differs t c =
@@ -95,4 +97,5 @@ match_parts-returns-in-Differs t c =
     let lt : i < length ps = c.loop-i-test.true in
     let em : Differs (path_of c.in-Differs.path) ≡ behind (q ++ (i + 1) ∷ []) (match (pattern_of c.index-parts-i.result) (value_of c.index-trees-i.result)) =
     ap matched_of (sym c.in-Differs.is) ∙ c.in_ok-found.ensures ∙ ap (λ path. behind path (match (pattern_of c.index-parts-i.result) (value_of c.index-trees-i.result))) c.push.ensures.steps in
-    one_more q (i + 1) i ps ts c.index-parts-i.result c.index-trees-i.result (values_of c.loop-i.taken.items) (Differs (path_of c.in-Differs.path)) _ lt (omega (arith, lt, c.requires.same)) c.index-parts-i.is c.index-trees-i.is em c.loop-i.invariant
+    one_more q (i + 1) i ps ts c.index-parts-i.result c.index-trees-i.result (values_of c.loop-i.taken.items) (Differs (path_of c.in-Differs.path)) _
+    lt (omega (arith, lt, c.requires.same)) c.index-parts-i.is c.index-trees-i.is em c.loop-i.invariant

@@ -16,13 +16,16 @@ use Rattle.aw_plain.proofs.OutcomeLemmas.{found_row, found_rule, no_rule, at_ope
 use Rattle.aw_plain.proofs.outcome.weigh.Goals as goal
 
 pub weigh_rule-requires-clause-narrow : goal.weigh_rule-requires-clause-narrow
-weigh_rule-requires-clause-narrow c = patterns_narrow c.args.grammar.now c.args.number _ (found_rule c.args.grammar.now.rules c.args.number c.rule.result c.in-Some-rule.rule c.rule.ensures.value c.in-Some-rule.is)
+weigh_rule-requires-clause-narrow c = patterns_narrow c.args.grammar.now c.args.number _ (found_rule c.args.grammar.now.rules c.args.number
+    c.rule.result c.in-Some-rule.rule c.rule.ensures.value c.in-Some-rule.is)
 
 pub weigh_rule-requires-clause-shallow : goal.weigh_rule-requires-clause-shallow
-weigh_rule-requires-clause-shallow c = patterns_shallow c.args.grammar.now c.args.number _ (found_rule c.args.grammar.now.rules c.args.number c.rule.result c.in-Some-rule.rule c.rule.ensures.value c.in-Some-rule.is)
+weigh_rule-requires-clause-shallow c = patterns_shallow c.args.grammar.now c.args.number _ (found_rule c.args.grammar.now.rules c.args.number
+    c.rule.result c.in-Some-rule.rule c.rule.ensures.value c.in-Some-rule.is)
 
 pub weigh_rule-requires-clause-few : goal.weigh_rule-requires-clause-few
-weigh_rule-requires-clause-few c = patterns_few c.args.grammar.now c.args.number _ (found_rule c.args.grammar.now.rules c.args.number c.rule.result c.in-Some-rule.rule c.rule.ensures.value c.in-Some-rule.is)
+weigh_rule-requires-clause-few c = patterns_few c.args.grammar.now c.args.number _ (found_rule c.args.grammar.now.rules c.args.number c.rule.result
+    c.in-Some-rule.rule c.rule.ensures.value c.in-Some-rule.is)
 
 pub weigh_rule-requires-clause-same : goal.weigh_rule-requires-clause-same
 weigh_rule-requires-clause-same c = λ e.
@@ -40,7 +43,8 @@ returns-in-Some-rule-clause-value c =
     let row = c.in-Some.row in
     let found = found_row c.args.node.now (config_of c.args.rows.now) c.find_row.result row c.find_row.ensures c.in-Some.is in
     let here = found_rule c.args.grammar.now.rules c.args.number c.rule.result c.in-Some-rule.rule c.rule.ensures.value c.in-Some-rule.is in
-    IfOk-weaker c.weigh_rule.result _ _ (λ (o : Outcome) w. w g.sorts ∙ at_open g c.args.number _ c.args.node.now (map ground_of c.args.args.now) row.now _ here c.in_default.is found) c.weigh_rule.ensures.value
+    IfOk-weaker c.weigh_rule.result _ _ (λ (o : Outcome) w. w g.sorts ∙ at_open g c.args.number _ c.args.node.now (map ground_of c.args.args.now)
+    row.now _ here c.in_default.is found) c.weigh_rule.ensures.value
 
 pub returns-in-Some-rule-clause-takable : goal.returns-in-Some-rule-clause-takable
 returns-in-Some-rule-clause-takable c =
@@ -53,4 +57,5 @@ returns-in-None-rule-clause-value c =
     let g = c.args.grammar.now in
     let row = c.in-Some.row in
     let found = found_row c.args.node.now (config_of c.args.rows.now) c.find_row.result row c.find_row.ensures c.in-Some.is in
-    at_open g c.args.number None c.args.node.now (map ground_of c.args.args.now) row.now _ (no_rule c.args.grammar.now.rules c.args.number c.rule.result c.rule.ensures.value c.in-None-rule.is) c.in_default.is found
+    at_open g c.args.number None c.args.node.now (map ground_of c.args.args.now) row.now _ (no_rule c.args.grammar.now.rules c.args.number
+    c.rule.result c.rule.ensures.value c.in-None-rule.is) c.in_default.is found

@@ -19,4 +19,5 @@ pub returns-clause-err : goal.returns-clause-err
 returns-clause-err c =
     let w = words_of c.args.grammar.now in
     let e = gathered w c.args.text.now _ c.args.piece.now c.args.pieces.now.items c.begin_piece.new.pieces.items c.in_ok-begin_piece.ensures.opening (c.in_ok-begin_piece.ensures.text w) in
-    IfErr-weaker c.add_gathered.result _ _ (λ (fault : PrintFault) p. subst (λ t. Prints t c.args.report.now c.add_gathered.new.report (Err fault)) e (Prints-stopped _ (pending w c.begin_piece.new.pieces.items) _ _ fault p)) c.add_gathered.ensures.err
+    IfErr-weaker c.add_gathered.result _ _ (λ (fault : PrintFault) p. subst (λ t. Prints t c.args.report.now c.add_gathered.new.report (Err fault)) e
+    (Prints-stopped _ (pending w c.begin_piece.new.pieces.items) _ _ fault p)) c.add_gathered.ensures.err

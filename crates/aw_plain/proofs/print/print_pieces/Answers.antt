@@ -19,17 +19,20 @@ loop-piece-smaller-in_ok-print_piece-2 c = omega (arith, c.in_ok-print_piece.ens
 pub loop-piece-preserved : goal.loop-piece-preserved
 loop-piece-preserved c = λ last r next.
     let w = words_of c.args.grammar.now in
-    c.loop-piece.invariant last r (subst (λ t. Prints t c.loop-piece.report last r) (all_gathered w c.loop-piece.text c.loop-piece.pieces.items c.pop.new.self.items c.in-Some.piece c.in-Some.ensures.items) (c.in_ok-print_piece.ensures.ok last r next))
+    c.loop-piece.invariant last r (subst (λ t. Prints t c.loop-piece.report last r) (all_gathered w c.loop-piece.text c.loop-piece.pieces.items
+    c.pop.new.self.items c.in-Some.piece c.in-Some.ensures.items) (c.in_ok-print_piece.ensures.ok last r next))
 
 pub loop-piece-preserved-in_ok-print_piece : goal.loop-piece-preserved-in_ok-print_piece
 loop-piece-preserved-in_ok-print_piece c = λ last r next.
     let w = words_of c.args.grammar.now in
-    c.loop-piece.invariant last r (subst (λ t. Prints t c.loop-piece.report last r) (all_gathered w c.loop-piece.text c.loop-piece.pieces.items c.pop.new.self.items c.in-Some.piece c.in-Some.ensures.items) (c.in_ok-print_piece.ensures.ok last r next))
+    c.loop-piece.invariant last r (subst (λ t. Prints t c.loop-piece.report last r) (all_gathered w c.loop-piece.text c.loop-piece.pieces.items
+    c.pop.new.self.items c.in-Some.piece c.in-Some.ensures.items) (c.in_ok-print_piece.ensures.ok last r next))
 
 pub loop-piece-preserved-in_ok-print_piece-2 : goal.loop-piece-preserved-in_ok-print_piece-2
 loop-piece-preserved-in_ok-print_piece-2 c = λ last r next.
     let w = words_of c.args.grammar.now in
-    c.loop-piece.invariant last r (subst (λ t. Prints t c.loop-piece.report last r) (all_gathered w c.loop-piece.text c.loop-piece.pieces.items c.pop.new.self.items c.in-Some.piece c.in-Some.ensures.items) (c.in_ok-print_piece.ensures.ok last r next))
+    c.loop-piece.invariant last r (subst (λ t. Prints t c.loop-piece.report last r) (all_gathered w c.loop-piece.text c.loop-piece.pieces.items
+    c.pop.new.self.items c.in-Some.piece c.in-Some.ensures.items) (c.in_ok-print_piece.ensures.ok last r next))
 
 pub returns-in_err-print_piece : goal.returns-in_err-print_piece
 returns-in_err-print_piece c =

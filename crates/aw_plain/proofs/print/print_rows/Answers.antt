@@ -11,7 +11,8 @@ returns-in_err-print_row c =
     let rows = c.args.rows.now in
     let i = c.loop-row.row-index in
     let q = c.row-item.result in
-    c.loop-row.invariant _ _ (stops (artifact_text w (config_of (drop i rows))) (row_text w (plain_row q)) (artifact_text w (config_of (drop (i + 1) rows))) c.loop-row.report c.print_row.new.report c.print_row.result c.from_residual.result _
+    c.loop-row.invariant _ _ (stops (artifact_text w (config_of (drop i rows))) (row_text w (plain_row q))
+    (artifact_text w (config_of (drop (i + 1) rows))) c.loop-row.report c.print_row.new.report c.print_row.result c.from_residual.result _
     (lines_more w rows i q c.loop-row-test.true c.row-item.is) c.in_err-print_row.was (search rules) c.print_row.ensures)
 
 pub loop-row-preserved : goal.loop-row-preserved
@@ -20,7 +21,8 @@ loop-row-preserved c = λ new r next.
     let rows = c.args.rows.now in
     let i = c.loop-row.row-index in
     let q = c.row-item.result in
-    c.loop-row.invariant new r (then_prints (artifact_text w (config_of (drop i rows))) (row_text w (plain_row q)) (artifact_text w (config_of (drop (i + 1) rows))) c.loop-row.report c.print_row.new.report new c.print_row.result r _
+    c.loop-row.invariant new r (then_prints (artifact_text w (config_of (drop i rows))) (row_text w (plain_row q))
+    (artifact_text w (config_of (drop (i + 1) rows))) c.loop-row.report c.print_row.new.report new c.print_row.result r _
     (lines_more w rows i q c.loop-row-test.true c.row-item.is) c.in_ok-print_row.was c.print_row.ensures next)
 
 pub returns : goal.returns

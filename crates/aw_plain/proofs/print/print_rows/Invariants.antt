@@ -7,4 +7,6 @@ use Rattle.aw_plain_rows.specs.RowView.{config_of}
 use Rattle.aw_plain.proofs.print.print_rows.Given as goal
 
 abbrev pub invariant-loop-row : goal.invariant-loop-row
-invariant-loop-row l = (new : Bounded) (r : Result Unit PrintFault) → Prints (artifact_text (words_of l.grammar) (config_of (drop l.row-index l.rows))) l.report new r → Prints (artifact_text (words_of l.grammar) (config_of l.rows)) l.fn.report new r
+invariant-loop-row l = (new : Bounded) (r : Result Unit PrintFault) →
+    Prints (artifact_text (words_of l.grammar) (config_of (drop l.row-index l.rows))) l.report new r →
+    Prints (artifact_text (words_of l.grammar) (config_of l.rows)) l.fn.report new r

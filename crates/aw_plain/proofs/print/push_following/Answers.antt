@@ -23,6 +23,16 @@ loop-k-preserved c =
           ap (pending w) c.in_ok-push.ensures.items ∙ pending_push w c.loop-k.pieces.items _
           ∙ ap (λ rest. (codes ", " ++ text_of w u) ++ rest) (c.loop-k.invariant.text w)
           ∙ sym (append_assoc (codes ", " ++ text_of w u) more old)
-          ∙ ap (λ rest. rest ++ old) (append_assoc (codes ", ") (text_of w u) more ∙ ap (λ v. codes ", " ++ (value_text w v ++ more)) c.in_ok-copy_part.ensures ∙ sym (following_more w m ts (k - 1) k t ek lt c.index-trees-k.is));
-      work = omega (arith, ap pieces_work c.in_ok-push.ensures.items, work_more, places_copied m t u c.in_ok-copy_part.ensures, c.loop-k.invariant.work, at_drop_more places_of_all ts (k - 1) t lt, ap places c.index-trees-k.is, ap (λ n. places_of_all (drop n ts)) ek);
+          ∙ ap (λ rest. rest ++ old) (append_assoc (codes ", ") (text_of w u) more ∙ ap (λ v. codes ", " ++ (value_text w v ++ more))
+          c.in_ok-copy_part.ensures ∙ sym (following_more w m ts (k - 1) k t ek lt c.index-trees-k.is));
+      work = omega (
+        arith,
+        ap pieces_work c.in_ok-push.ensures.items,
+        work_more,
+        places_copied m t u c.in_ok-copy_part.ensures,
+        c.loop-k.invariant.work,
+        at_drop_more places_of_all ts (k - 1) t lt,
+        ap places c.index-trees-k.is,
+        ap (λ n. places_of_all (drop n ts)) ek,
+      );
     }

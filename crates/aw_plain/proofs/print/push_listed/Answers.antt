@@ -26,4 +26,13 @@ returns-in_ok-push-in-len1-up-clause-work c =
     let m = c.args.whole in
     let t = c.first-item.result in
     let u = c.in_ok-copy_part-in-len1-up.field-0 in
-    omega (arith, ap pieces_work c.in_ok-push-in-len1-up.ensures.items, work_more, places_copied m t u c.in_ok-copy_part-in-len1-up.ensures, c.in_ok-push_following-in-len1-up.ensures.work, at_drop_more places_of_all ts 0 t (omega (arith, c.in-len1-up.len_at_least)), ap places c.first-item.is, ap places_of_all (all_behind ts))
+    omega (
+      arith,
+      ap pieces_work c.in_ok-push-in-len1-up.ensures.items,
+      work_more,
+      places_copied m t u c.in_ok-copy_part-in-len1-up.ensures,
+      c.in_ok-push_following-in-len1-up.ensures.work,
+      at_drop_more places_of_all ts 0 t (omega (arith, c.in-len1-up.len_at_least)),
+      ap places c.first-item.is,
+      ap places_of_all (all_behind ts),
+    )

@@ -24,10 +24,18 @@ returns-in_ok-push-in-Con-clause-text c =
     let old = pending w c.args.pieces.now.items in
     let start = opening w (value_of c.args.tree.now) in
     opened w _ _ _ _ _ old c.in-Con.is held (λ e. let no : false ≡ true = c.if-are_none.ensures.1 (first ∙ sym held ∙ e) in absurd cc)
-    ∙ ap (λ u. start ++ u) (ap (λ u. listed (texts_under w c.in-Con.whole c.as_slice-in-Con.result.now) ++ u) (sym (ap (pending w) c.in_ok-push-in-Con.ensures.items ∙ pending_push w c.args.pieces.now.items _))
+    ∙ ap (λ u. start ++ u) (ap (λ u. listed (texts_under w c.in-Con.whole c.as_slice-in-Con.result.now) ++ u)
+    (sym (ap (pending w) c.in_ok-push-in-Con.ensures.items ∙ pending_push w c.args.pieces.now.items _))
     ∙ sym (e w))) c.push_listed.ensures.text
 
 pub returns-in_ok-push-in-Con-clause-work : goal.returns-in_ok-push-in-Con-clause-work
 returns-in_ok-push-in-Con-clause-work c =
     let held = c.as_slice-in-Con.ensures.value ∙ ap (λ (ts : Vec Tree Global). ts.items) c.deref-in-Con.ensures in
-    on_ok_weaker c.push_listed.result (λ e. omega (arith, e, ap pieces_work c.in_ok-push-in-Con.ensures.items, work_more, ap places_of_all held, places_made _ _ _ _ c.in-Con.is)) c.push_listed.ensures.work
+    on_ok_weaker c.push_listed.result (λ e. omega (
+      arith,
+      e,
+      ap pieces_work c.in_ok-push-in-Con.ensures.items,
+      work_more,
+      ap places_of_all held,
+      places_made _ _ _ _ c.in-Con.is,
+    )) c.push_listed.ensures.work

@@ -12,5 +12,6 @@ pub returns-clause-value : goal.returns-clause-value
 returns-clause-value c =
     let rows = c.args.rows.now in
     let n = c.args.node.now in
-    let point = IsPartitionPoint-from_clause (λ (r : Row). not (node_lt n r.node)) _ _ c.partition_point.ensures.partitioned (after_last at_row plain_row rows n c.requires) (λ a r q k. search rules) in
+    let point = IsPartitionPoint-from_clause (λ (r : Row). not (node_lt n r.node)) _ _ c.partition_point.ensures.partitioned
+    (after_last at_row plain_row rows n c.requires) (λ a r q k. search rules) in
     inserted_at at_row plain_row rows n c.partition_point.result c.partition_point.ensures.bound point.0 point.1

@@ -30,7 +30,15 @@ returns-in_ok-push_parts-in-Con-clause-finish c =
     let us = map g ps in
     let old = c.args.todo.now.items in
     let held = c.as_slice.ensures.value ∙ ap (λ (ts : Vec Tree Global). ts.items) c.deref-in-Con.ensures in
-    let n : c.len.result ≡ length us = omega (arith, c.len.ensures, ap (λ (ts : Vec Tree Global). length ts.items) c.deref.ensures, ap length held, length-map ps g, c.deref.result.now.ok.0, c.in-Con.parts.value.ok.0) in
+    let n : c.len.result ≡ length us = omega (
+      arith,
+      c.len.ensures,
+      ap (λ (ts : Vec Tree Global). length ts.items) c.deref.ensures,
+      ap length held,
+      length-map ps g,
+      c.deref.result.now.ok.0,
+      c.in-Con.parts.value.ok.0,
+    ) in
     c.in_ok-push_parts-in-Con.ensures.finish f vs
     ∙ ap (λ js. finish f js (vs ++ us)) c.in_ok-push-in-Con-2.ensures.items
     ∙ finish_push f old _ (vs ++ us)

@@ -13,8 +13,19 @@ Tree::drop-let_go-requires t c = (omega (arith, c.decreases, c.loop-self.invaria
 
 pub Tree::drop-hang_rest-parts-requires : goal.Tree::drop-hang_rest-parts-requires
 Tree::drop-hang_rest-parts-requires t c =
-    let split = places_append c.take_last.new.parts.value.items (c.in-Some.last ∷ []) in
-    (omega (arith, c.decreases, c.loop-self.invariant, places_made _ _ _ _ c.in-Con.is, ap places_of_all c.in-Some.ensures, split, places_positive c.in-Some.last, ap places_open c.in-Some-open.is), tt)
+    let split = places_append c.take_last.new.parts.value.items (c.in-Some.last ∷ []) in (
+      omega (
+        arith,
+        c.decreases,
+        c.loop-self.invariant,
+        places_made _ _ _ _ c.in-Con.is,
+        ap places_of_all c.in-Some.ensures,
+        split,
+        places_positive c.in-Some.last,
+        ap places_open c.in-Some-open.is,
+      ),
+      tt,
+    )
 
 pub hang_rest-drop-requires : goal.hang_rest-drop-requires
 hang_rest-drop-requires t c = (omega (arith, c.decreases, ap places c.in-Err.ensures.0, places_con 0 false c.args.rest), tt)
@@ -31,7 +42,8 @@ Tree::drop-loop-self-smaller-in-Some t c =
       | Tree::drop-in-Some-open w ↦ omega (arith, ap size w.parts-is, w.hang_rest-parts.ensures, ap places_open w.in-Some-open.is)
       | Tree::drop-in_default w ↦ omega (arith, ap size w.parts-is)
     ] in
-    falls_hand _ _ _ _ (omega (arith, kept, split, places_made _ _ _ _ c.in-Con.is, ap places_of_all c.in-Some.ensures)) (omega (arith, split, places_made _ _ _ _ c.in-Con.is, ap places_of_all c.in-Some.ensures))
+    falls_hand _ _ _ _ (omega (arith, kept, split, places_made _ _ _ _ c.in-Con.is, ap places_of_all c.in-Some.ensures))
+    (omega (arith, split, places_made _ _ _ _ c.in-Con.is, ap places_of_all c.in-Some.ensures))
 
 pub Tree::drop-loop-self-preserved-in-Some : goal.Tree::drop-loop-self-preserved-in-Some
 Tree::drop-loop-self-preserved-in-Some t c =

@@ -20,4 +20,5 @@ returns-clause-prints c =
     let until = c.args.span.now.until in
     let same : c.flush.new.report.text ≡ made (printing c.args.text.now c.args.report.now) = ap (λ (r : Bounded). r.text) c.in_ok-flush.ensures.ok in
     subst (λ t. Prints (c.args.text.now ++ slice_range t from until) c.args.report.now c.copy_all.new.report c.copy_all.result) same
-    (Prints-second c.args.text.now (slice_range c.flush.new.report.text from until) c.args.report.now c.flush.new.report c.copy_all.new.report c.copy_all.result (flush_prints c.args.text.now c.args.report.now c.flush.new.report c.in_ok-flush.ensures.ok) c.copy_all.ensures.prints)
+    (Prints-second c.args.text.now (slice_range c.flush.new.report.text from until) c.args.report.now c.flush.new.report c.copy_all.new.report
+    c.copy_all.result (flush_prints c.args.text.now c.args.report.now c.flush.new.report c.in_ok-flush.ensures.ok) c.copy_all.ensures.prints)

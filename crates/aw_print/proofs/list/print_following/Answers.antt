@@ -20,12 +20,14 @@ loop-r-preserved g c =
     let rs = c.args.refs.now in
     record {
       rest = c.in_ok-print_next.ensures.rest;
-      underway = one_more w k _ c.r-item.result (drop i rs) (drop (i + 1) rs) _ _ _ (Ok tt) (at_item rs i c.r-item.result c.loop-r-test.true c.r-item.is) c.loop-r.invariant.underway c.in_ok-print_next.ensures.prints;
+      underway = one_more w k _ c.r-item.result (drop i rs) (drop (i + 1) rs) _ _ _ (Ok tt) (at_item rs i c.r-item.result c.loop-r-test.true
+          c.r-item.is) c.loop-r.invariant.underway c.in_ok-print_next.ensures.prints;
     }
 
 pub returns-clause-prints : goal.returns-clause-prints
 returns-clause-prints g c =
-    no_more (words_of c.args.g.now) (g.F.Facts.map c.args.f.now) _ _ _ (drop c.loop-r.r-index c.args.refs.now) (drop_all c.loop-r.r-index c.args.refs.now c.loop-r-test.false) c.loop-r.invariant.underway
+    no_more (words_of c.args.g.now) (g.F.Facts.map c.args.f.now) _ _ _ (drop c.loop-r.r-index c.args.refs.now)
+    (drop_all c.loop-r.r-index c.args.refs.now c.loop-r-test.false) c.loop-r.invariant.underway
 
 pub returns-in_err-print_next-clause-prints : goal.returns-in_err-print_next-clause-prints
 returns-in_err-print_next-clause-prints g c =
@@ -34,4 +36,6 @@ returns-in_err-print_next-clause-prints g c =
     let i = c.loop-r.r-index in
     let rs = c.args.refs.now in
     hands_on _ _ _ _ _ c.from_residual.result (search rules)
-    (one_more w k _ c.r-item.result (drop i rs) (drop (i + 1) rs) _ (printing c.loop-r.text c.loop-r.report) (printing c.print_next.new.text c.print_next.new.report) (Err _) (at_item rs i c.r-item.result c.loop-r-test.true c.r-item.is) c.loop-r.invariant.underway c.in_err-print_next.ensures.prints)
+    (one_more w k _ c.r-item.result (drop i rs) (drop (i + 1) rs) _ (printing c.loop-r.text c.loop-r.report)
+    (printing c.print_next.new.text c.print_next.new.report) (Err _) (at_item rs i c.r-item.result c.loop-r-test.true c.r-item.is)
+    c.loop-r.invariant.underway c.in_err-print_next.ensures.prints)

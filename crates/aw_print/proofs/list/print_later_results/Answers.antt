@@ -30,7 +30,8 @@ loop-j-preserved g c =
       rest = c.in_ok-print_next.ensures.rest;
       same_node = c.loop-j.invariant.same_node;
       underway = one_more w k _ r (map (result node) (upto (j + 1) (c.args.gives - j))) (map (result node) (upto (j + 1 + 1) (c.args.gives - (j + 1)))) _ _ _ (Ok tt)
-          (results_from node j c.args.gives c.loop-j-test.true ∙ ap (λ x. x ∷ map (result node) (upto (j + 1 + 1) (c.args.gives - (j + 1)))) this) c.loop-j.invariant.underway c.in_ok-print_next.ensures.prints;
+          (results_from node j c.args.gives c.loop-j-test.true ∙ ap (λ x. x ∷ map (result node) (upto (j + 1 + 1) (c.args.gives - (j + 1)))) this)
+          c.loop-j.invariant.underway c.in_ok-print_next.ensures.prints;
     }
 
 pub returns-in_err-print_next-clause-prints : goal.returns-in_err-print_next-clause-prints
@@ -42,5 +43,7 @@ returns-in_err-print_next-clause-prints g c =
     let r : Ref = record { node = c.loop-j.r.node; slot = Result (c.from.result + 1) } in
     let this : result node (j + 1) ≡ r = λ i. record { node = sym c.loop-j.invariant.same_node i; slot = Result (sym c.from.ensures i + 1) } in
     hands_on _ _ _ _ _ c.from_residual.result (search rules)
-    (one_more w k _ r (map (result node) (upto (j + 1) (c.args.gives - j))) (map (result node) (upto (j + 1 + 1) (c.args.gives - (j + 1)))) _ (printing c.loop-j.text c.loop-j.report) (printing c.print_next.new.text c.print_next.new.report) (Err _)
-    (results_from node j c.args.gives c.loop-j-test.true ∙ ap (λ x. x ∷ map (result node) (upto (j + 1 + 1) (c.args.gives - (j + 1)))) this) c.loop-j.invariant.underway c.in_err-print_next.ensures.prints)
+    (one_more w k _ r (map (result node) (upto (j + 1) (c.args.gives - j))) (map (result node) (upto (j + 1 + 1) (c.args.gives - (j + 1)))) _
+    (printing c.loop-j.text c.loop-j.report) (printing c.print_next.new.text c.print_next.new.report) (Err _)
+    (results_from node j c.args.gives c.loop-j-test.true ∙ ap (λ x. x ∷ map (result node) (upto (j + 1 + 1) (c.args.gives - (j + 1)))) this)
+    c.loop-j.invariant.underway c.in_err-print_next.ensures.prints)

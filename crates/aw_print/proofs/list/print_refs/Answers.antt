@@ -14,10 +14,13 @@ returns-in_err-print_ref-in-len1-up-clause-prints g c =
     let rs = c.args.refs.now in
     let r = c.first-item.result in
     hands_on _ _ _ _ _ c.from_residual.result (search rules)
-    (first_not (words_of c.args.g.now) (g.F.Facts.map c.args.f.now) r rs _ (printing c.args.text.now c.args.report.now) (printing c.print_ref.new.text c.print_ref.new.report) _ (first_item rs r c.in-len1-up.len_at_least c.first-item.is) c.in_err-print_ref-in-len1-up.ensures.prints)
+    (first_not (words_of c.args.g.now) (g.F.Facts.map c.args.f.now) r rs _ (printing c.args.text.now c.args.report.now)
+    (printing c.print_ref.new.text c.print_ref.new.report) _ (first_item rs r c.in-len1-up.len_at_least c.first-item.is)
+    c.in_err-print_ref-in-len1-up.ensures.prints)
 
 pub returns-in_ok-print_ref-in-len1-up-clause-prints : goal.returns-in_ok-print_ref-in-len1-up-clause-prints
 returns-in_ok-print_ref-in-len1-up-clause-prints g c =
     let rs = c.args.refs.now in
     let r = c.first-item.result in
-    first_and (words_of c.args.g.now) (g.F.Facts.map c.args.f.now) r rs _ _ _ _ c.print_following.result (first_item rs r c.in-len1-up.len_at_least c.first-item.is) c.in_ok-print_ref-in-len1-up.ensures.prints c.print_following.ensures.prints
+    first_and (words_of c.args.g.now) (g.F.Facts.map c.args.f.now) r rs _ _ _ _ c.print_following.result
+    (first_item rs r c.in-len1-up.len_at_least c.first-item.is) c.in_ok-print_ref-in-len1-up.ensures.prints c.print_following.ensures.prints

@@ -29,7 +29,8 @@ returns-clause-unfolded g c = λ ins outs a b.
     let (l, h) = line_from w k c.args.node.now (state_of c.args.done.now) c.args.inherited.now os ins outs a b in
     let n = l + suc c.args.report.now.limit in
     subst (λ t. Prints t c.args.report.now c.print_or_forget-result.new.report c.print_or_forget-result.result) (ap so_far (h n (omega arith)))
-    (ended _ (row-Grows w k opening c.args.inherited.now os) (λ n. row-long n w k opening c.args.inherited.now os) _ _ _ c.bytes-so_far.ensures.within c.print_or_forget-result.ensures.ended n (omega arith))
+    (ended _ (row-Grows w k opening c.args.inherited.now os) (λ n. row-long n w k opening c.args.inherited.now os) _ _ _ c.bytes-so_far.ensures.within
+    c.print_or_forget-result.ensures.ended n (omega arith))
 
 pub returns-clause-endless : goal.returns-clause-endless
 returns-clause-endless g c = λ r m e.

@@ -34,7 +34,8 @@ returns-in_err-print_results-clause-prints g c =
     let outs = map (result node) (upto 1 c.gives_of.result) in
     let before = values_2 w k c.as_slice.result.now outs _ _ _ _ (values_1 w k c.as_slice.result.now outs _ _ c.in_ok-print_refs.ensures.prints) c.in_ok-push_array.ensures.ok in
     same_values w k _ _ outs _ _ _ c.from_residual-in_err-print_results.result c.as_slice.ensures (ap (λ m. map (result node) (upto 1 m)) c.gives_of.ensures)
-    (hands_on _ _ _ _ _ c.from_residual-in_err-print_results.result (search rules) (stops_later _ _ _ _ _ _ before (first_stops (λ n. listed (map (draft n w k) outs)) after_results _ _ _ c.in_err-print_results.ensures.prints)))
+    (hands_on _ _ _ _ _ c.from_residual-in_err-print_results.result (search rules)
+    (stops_later _ _ _ _ _ _ before (first_stops (λ n. listed (map (draft n w k) outs)) after_results _ _ _ c.in_err-print_results.ensures.prints)))
 
 pub returns-in_err-push_array-2-clause-prints : goal.returns-in_err-push_array-2-clause-prints
 returns-in_err-push_array-2-clause-prints g c =
@@ -44,7 +45,8 @@ returns-in_err-push_array-2-clause-prints g c =
     let outs = map (result node) (upto 1 c.gives_of.result) in
     let before = values_2 w k c.as_slice.result.now outs _ _ _ _ (values_1 w k c.as_slice.result.now outs _ _ c.in_ok-print_refs.ensures.prints) c.in_ok-push_array.ensures.ok in
     same_values w k _ _ outs _ _ _ c.from_residual-in_err-push_array-2.result c.as_slice.ensures (ap (λ m. map (result node) (upto 1 m)) c.gives_of.ensures)
-    (hands_on _ _ _ _ _ c.from_residual-in_err-push_array-2.result (search rules) (out_of_memory _ _ _ _ _ refl (values_3 w k c.as_slice.result.now outs _ _ _ before c.in_ok-print_results.ensures.prints)))
+    (hands_on _ _ _ _ _ c.from_residual-in_err-push_array-2.result (search rules)
+    (out_of_memory _ _ _ _ _ refl (values_3 w k c.as_slice.result.now outs _ _ _ before c.in_ok-print_results.ensures.prints)))
 
 pub returns-clause-prints : goal.returns-clause-prints
 returns-clause-prints g c =
@@ -58,8 +60,13 @@ returns-clause-prints g c =
 
 pub print_results-requires : goal.print_results-requires
 print_results-requires g c =
-    rest_on (origin c.args.g.now (g.F.Facts.map c.args.f.now) (g.F.Facts.names c.args.f.now)) (desk c.print_refs.new.text c.print_refs.new.report c.print_refs.new.printer) (desk _ c.print_refs.new.report c.print_refs.new.printer) (codes ") <") c.in_ok-push_array.ensures.ok refl refl refl c.in_ok-print_refs.ensures.rest
+    rest_on (origin c.args.g.now (g.F.Facts.map c.args.f.now) (g.F.Facts.names c.args.f.now)) (desk c.print_refs.new.text c.print_refs.new.report
+    c.print_refs.new.printer) (desk _ c.print_refs.new.report c.print_refs.new.printer) (codes ") <") c.in_ok-push_array.ensures.ok refl refl refl
+    c.in_ok-print_refs.ensures.rest
 
 pub returns-clause-rest : goal.returns-clause-rest
 returns-clause-rest g c =
-    rest_on (origin c.args.g.now (g.F.Facts.map c.args.f.now) (g.F.Facts.names c.args.f.now)) (desk c.print_results.new.text c.print_results.new.report c.print_results.new.printer) (desk _ c.print_results.new.report c.print_results.new.printer) (codes ">\n") c.in_ok-push_array-2.ensures.ok refl refl refl c.in_ok-print_results.ensures.rest
+    rest_on (origin c.args.g.now (g.F.Facts.map c.args.f.now) (g.F.Facts.names c.args.f.now))
+    (desk c.print_results.new.text c.print_results.new.report c.print_results.new.printer)
+    (desk _ c.print_results.new.report c.print_results.new.printer) (codes ">\n") c.in_ok-push_array-2.ensures.ok refl refl refl
+    c.in_ok-print_results.ensures.rest

@@ -32,7 +32,8 @@ loop-k-preserved g c =
       some = omega arith;
       within = omega arith;
       notes = λ w.
-          notes_push (record { words = w; equations = k; names = names }) (λ m. following (map (draft m w k) (drop c.loop-k.k parts))) (λ m. following (map (draft m w k) (drop i parts))) c.args.pieces.now.items c.loop-k.pieces.items _ (Next c.child.result)
+          notes_push (record { words = w; equations = k; names = names }) (λ m. following (map (draft m w k) (drop c.loop-k.k parts)))
+          (λ m. following (map (draft m w k) (drop i parts))) c.args.pieces.now.items c.loop-k.pieces.items _ (Next c.child.result)
           (c.loop-k.invariant.notes w) c.in_ok-push.ensures.items (live_part names parts c.child.result i lt c.child.ensures) tt
           (λ m. next_part m w k names parts c.child.result i c.loop-k.k lt next c.child.ensures);
       count = omega (arith, ap length c.in_ok-push.ensures.items, length_push c.loop-k.pieces.items (Next c.child.result), c.loop-k.invariant.count);
@@ -44,6 +45,7 @@ returns-clause-notes g c = λ w.
     let names = g.F.Facts.names c.args.f.now in
     let parts = parts_at k names c.args.at in
     let one : c.loop-k.k ≡ 1 = omega (arith, c.loop-k.invariant.some) in
-    notes_as (record { words = w; equations = k; names = names }) (λ m. following (map (draft m w k) (drop c.loop-k.k parts))) (λ m. following_behind (draft m w k) parts) c.args.pieces.now.items c.loop-k.pieces.items
+    notes_as (record { words = w; equations = k; names = names }) (λ m. following (map (draft m w k) (drop c.loop-k.k parts)))
+    (λ m. following_behind (draft m w k) parts) c.args.pieces.now.items c.loop-k.pieces.items
     (λ m. ap (λ i. following (map (draft m w k) (drop i parts))) one ∙ behind_first (draft m w k) parts (omega (arith, c.requires.parts, c.requires.some)))
     (c.loop-k.invariant.notes w)

@@ -12,6 +12,7 @@ returns-clause-notes g c = λ w.
     let names = g.F.Facts.names c.args.f.now in
     let parts = parts_at k names c.args.at in
     let lt : 0 < length parts = omega (arith, c.requires.parts, c.requires.some) in
-    notes_push (record { words = w; equations = k; names = names }) (λ m. following_behind (draft m w k) parts) (λ m. listed (map (draft m w k) parts)) c.args.pieces.now.items c.push_following.new.pieces.items _ (First c.child.result)
+    notes_push (record { words = w; equations = k; names = names }) (λ m. following_behind (draft m w k) parts)
+    (λ m. listed (map (draft m w k) parts)) c.args.pieces.now.items c.push_following.new.pieces.items _ (First c.child.result)
     (c.in_ok-push_following.ensures.notes w) c.in_ok-push.ensures.items (live_part names parts c.child.result 0 lt c.child.ensures) tt
     (λ m. all_parts m w k names parts c.child.result lt c.child.ensures)

@@ -12,7 +12,8 @@ returns-in_err-push g c = λ cfg e.
     let n : c.len.result ≡ length cfg = omega (arith, c.len.ensures, c.in_ok-spots.spots.ok.0, c.in_ok-spots.ensures.quiet c.requires cfg e) in
     let whole : artifacts w cfg ≡ c.as_slice.result.now ++ artifact_text w cfg =
     artifacts_split w cfg c.len.result n ∙ ap (λ t. t ++ artifact_text w cfg) (sym (c.as_slice.ensures ∙ c.in_ok-line.ensures)) in
-    stops (artifacts w cfg) c.as_slice.result.now (artifact_text w cfg) c.args.report.now c.push.new.self c.push.result c.from_residual-in_err-push.result _ whole c.in_err-push.was (search rules) c.push.ensures.prints
+    stops (artifacts w cfg) c.as_slice.result.now (artifact_text w cfg) c.args.report.now c.push.new.self c.push.result
+    c.from_residual-in_err-push.result _ whole c.in_err-push.was (search rules) c.push.ensures.prints
 
 pub returns : goal.returns
 returns g c = λ cfg e.
@@ -20,5 +21,6 @@ returns g c = λ cfg e.
     let n : c.len.result ≡ length cfg = omega (arith, c.len.ensures, c.in_ok-spots.spots.ok.0, c.in_ok-spots.ensures.quiet c.requires cfg e) in
     let whole : artifacts w cfg ≡ c.as_slice.result.now ++ artifact_text w cfg =
     artifacts_split w cfg c.len.result n ∙ ap (λ t. t ++ artifact_text w cfg) (sym (c.as_slice.ensures ∙ c.in_ok-line.ensures)) in
-    goes_on (artifacts w cfg) c.as_slice.result.now (artifact_text w cfg) c.args.report.now c.push.new.self c.print_rows.new.report c.push.result c.print_rows.result whole c.in_ok-push.was c.push.ensures.prints
+    goes_on (artifacts w cfg) c.as_slice.result.now (artifact_text w cfg) c.args.report.now c.push.new.self c.print_rows.new.report c.push.result
+    c.print_rows.result whole c.in_ok-push.was c.push.ensures.prints
     (c.print_rows.ensures.quiet c.requires cfg e)

@@ -18,7 +18,8 @@ pub returns-in_err-tell_events-clause-prints : goal.returns-in_err-tell_events-c
 returns-in_err-tell_events-clause-prints g c =
     let w = c.args.world.now in
     let p = grammar_of w.accepted.now.grammar in
-    stops _ _ _ c.args.report.now c.tell_events.new.report c.tell_events.result c.from_residual.result _ refl c.in_err-tell_events.was (search rules) (c.tell_events.ensures.prints (V.empty_world p w.loads) c.requires.new)
+    stops _ _ _ c.args.report.now c.tell_events.new.report c.tell_events.result c.from_residual.result _ refl c.in_err-tell_events.was (search rules)
+    (c.tell_events.ensures.prints (V.empty_world p w.loads) c.requires.new)
 
 pub returns-clause-prints : goal.returns-clause-prints
 returns-clause-prints g c =

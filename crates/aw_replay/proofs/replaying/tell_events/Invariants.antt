@@ -18,6 +18,8 @@ invariant-loop-event g l = record {
   after : (v : V.World) → Shows g.W.Workspace l.initial.world v →
       Shows g.W.Workspace l.world (after_events (grammar_of l.initial.world.accepted.now.grammar) v (map event_seen (take l.event-index l.events)));
   whole : (v : V.World) → Shows g.W.Workspace l.initial.world v → (new : Bounded) (result : Result Unit PrintFault) →
-      Prints (all_lines (words_of l.initial.world.accepted.now.grammar) (grammar_of l.initial.world.accepted.now.grammar) (after_events (grammar_of l.initial.world.accepted.now.grammar) v (map event_seen (take l.event-index l.events))) (map event_seen (drop l.event-index l.events))) l.report new result →
+      Prints (all_lines (words_of l.initial.world.accepted.now.grammar) (grammar_of l.initial.world.accepted.now.grammar)
+      (after_events (grammar_of l.initial.world.accepted.now.grammar) v (map event_seen (take l.event-index l.events)))
+      (map event_seen (drop l.event-index l.events))) l.report new result →
       Prints (all_lines (words_of l.initial.world.accepted.now.grammar) (grammar_of l.initial.world.accepted.now.grammar) v (map event_seen l.events)) l.initial.report new result;
 }

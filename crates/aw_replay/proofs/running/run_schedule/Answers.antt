@@ -17,7 +17,8 @@ replay_schedule-told-requires-clause-may c =
 pub returns : goal.returns
 returns c =
     runs c.args.accepted.now c.in_ok-one.one c.in_ok-one.ensures.words c.in_ok-one.ensures.grammar c.undivided_laws.ensures c.args.reader.now c.requires.same c.replay_schedule-told.result
-    (told_in _ Choices c.args.reader.now c.in_ok-world.world c.replay_schedule-told.new.world c.replay_schedule-told.result c.in_ok-one.one false c.in_ok-world.ensures.accepted c.in_ok-world.ensures.loads
+    (told_in _ Choices c.args.reader.now c.in_ok-world.world c.replay_schedule-told.new.world c.replay_schedule-told.result c.in_ok-one.one false
+    c.in_ok-world.ensures.accepted c.in_ok-world.ensures.loads
     c.replay_schedule-told.ensures.replays)
 
 pub returns-in_err-world : goal.returns-in_err-world

@@ -40,7 +40,8 @@ loop-event-preserved g c =
       named = c.tell_kept-told.ensures.named;
       accepted = c.tell_kept-told.ensures.accepted ∙ i.accepted;
       loads = c.tell_kept-told.ensures.loads ∙ i.loads;
-      told = one_told g.W.Workspace c.args.kept c.args.reader.now c.loop-event.reader c.next.new.self (c.args.world.now, c.args.replay.now) (c.loop-event.world, c.loop-event.replay) i.told i.grammar i.typed
+      told = one_told g.W.Workspace c.args.kept c.args.reader.now c.loop-event.reader c.next.new.self (c.args.world.now, c.args.replay.now)
+          (c.loop-event.world, c.loop-event.replay) i.told i.grammar i.typed
           c.in_ok-event.field-0 c.in-Some.event c.in-Some.is n.next n.fits n.types (c.tell_kept-told.new.world, c.tell_kept-told.new.replay) c.in_ok-told.ensures.tells;
     }
 
@@ -50,7 +51,8 @@ returns-in_err-told-clause-tells g c =
     let n = c.in_ok-event.ensures in
     let same : c.from_residual-in_err-told.result ≡ Err (of_printing c.in_err-told.field-0.0) = search rules in
     subst (TellsLeft g.W.Workspace c.args.kept c.args.reader.now (c.args.world.now, c.args.replay.now) c.next.new.self (c.tell_kept-told.new.world, c.tell_kept-told.new.replay)) (sym same)
-    (print_fault g.W.Workspace c.args.kept c.args.reader.now c.loop-event.reader c.next.new.self (c.args.world.now, c.args.replay.now) (c.loop-event.world, c.loop-event.replay) i.told i.grammar i.typed
+    (print_fault g.W.Workspace c.args.kept c.args.reader.now c.loop-event.reader c.next.new.self (c.args.world.now, c.args.replay.now)
+    (c.loop-event.world, c.loop-event.replay) i.told i.grammar i.typed
     c.in_ok-event.field-0 c.in-Some.event c.in-Some.is n.next n.fits n.types (c.tell_kept-told.new.world, c.tell_kept-told.new.replay) c.in_err-told.field-0.0
     (λ large. c.tell_kept-told.ensures.too_large (c.in_err-told.was ∙ ap Err large)))
 

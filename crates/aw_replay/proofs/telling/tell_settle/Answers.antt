@@ -20,7 +20,8 @@ pub loop-number-smaller : goal.loop-number-smaller
 loop-number-smaller g c =
     let w = c.loop-number.world in
     let x = c.tell_delivery.new.world in
-    subst (λ (a : Accepted). bound_of (grammar_of a.grammar) (map choice_of x.taken.items) - count_set x.marks.delivered.items < bound_of (grammar_of w.accepted.now.grammar) (map choice_of w.taken.items) - count_set w.marks.delivered.items)
+    subst (λ (a : Accepted). bound_of (grammar_of a.grammar) (map choice_of x.taken.items) - count_set x.marks.delivered.items < bound_of
+    (grammar_of w.accepted.now.grammar) (map choice_of w.taken.items) - count_set w.marks.delivered.items)
     (sym c.tell_delivery.ensures.accepted)
     (fewer_left g.W.Workspace w x c.in-Some.number (sym c.quiet.ensures ∙ c.in-Some.is) c.in_ok-tell_delivery.ensures.stepped)
 
@@ -53,7 +54,8 @@ loop-number-preserved g c =
           ap (λ (a : Accepted). bound_of (grammar_of a.grammar) (map choice_of x.taken.items)) ea ∙ ap (bound_of p) (sym (so v s).taken ∙ settle_taken p n v) in
           let l = bounded g.W.Workspace x in
           let told : c.tell_delivery.new.text ≡ c.loop-number.text ++ move_lines (words_of d) u (V.Delivers k) (V.deliver p u k) =
-          c.in_ok-tell_delivery.ensures.text u (i.settled v s) ∙ ap (λ (a : Accepted). c.loop-number.text ++ move_lines (words_of a.grammar) u (V.Delivers k) (V.deliver (grammar_of a.grammar) u k)) i.accepted in
+          c.in_ok-tell_delivery.ensures.text u (i.settled v s) ∙ ap (λ (a : Accepted). c.loop-number.text ++ move_lines (words_of a.grammar) u
+          (V.Delivers k) (V.deliver (grammar_of a.grammar) u k)) i.accepted in
           ap (λ z. z ++ settle_lines (b - n) n (words_of d) p (V.settle n p v)) told
           ∙ append_assoc c.loop-number.text (move_lines (words_of d) u (V.Delivers k) (V.deliver p u k)) (settle_lines (b - n) n (words_of d) p (V.settle n p v))
           ∙ ap (λ z. c.loop-number.text ++ z) (lines_more (words_of d) p v b m n k (ap (V.first_false 0) (i.settled v s).delivered ∙ first) en (omega (arith, l, t)))

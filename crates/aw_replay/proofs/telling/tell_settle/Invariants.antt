@@ -22,7 +22,8 @@ invariant-loop-number g l = record {
       (count_set l.world.marks.delivered.items - count_set l.initial.world.marks.delivered.items)
       (words_of l.initial.world.accepted.now.grammar) (grammar_of l.initial.world.accepted.now.grammar)
       (V.settle (count_set l.world.marks.delivered.items - count_set l.initial.world.marks.delivered.items) (grammar_of l.initial.world.accepted.now.grammar) v)
-      ≡ l.initial.text ++ settle_lines (bound_of (grammar_of l.initial.world.accepted.now.grammar) v.taken) 0 (words_of l.initial.world.accepted.now.grammar) (grammar_of l.initial.world.accepted.now.grammar) v;
+      ≡ l.initial.text ++ settle_lines (bound_of (grammar_of l.initial.world.accepted.now.grammar) v.taken) 0
+      (words_of l.initial.world.accepted.now.grammar) (grammar_of l.initial.world.accepted.now.grammar) v;
 }
 
 abbrev pub decreases-loop-number : goal.decreases-loop-number

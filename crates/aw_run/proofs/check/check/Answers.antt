@@ -13,7 +13,8 @@ tell_asked-reply-requires-clause-faces c = rw (c.in-Ok.ensures.accepted ∙ c.gr
 
 pub tell_asked-reply-requires-clause-range : goal.tell_asked-reply-requires-clause-range
 tell_asked-reply-requires-clause-range c =
-    rw (c.in-Ok.ensures.accepted ∙ c.grammar_and_asked-grammar.ensures.grammar) (rw c.grammar_and_asked-grammar.ensures.asked (positions c.args.spec.grammar.sorts c.args.spec.depends c.requires.fits.depends))
+    rw (c.in-Ok.ensures.accepted ∙ c.grammar_and_asked-grammar.ensures.grammar) (rw c.grammar_and_asked-grammar.ensures.asked
+    (positions c.args.spec.grammar.sorts c.args.spec.depends c.requires.fits.depends))
 
 pub returns-in-Ok : goal.returns-in-Ok
 returns-in-Ok c =
@@ -23,4 +24,5 @@ returns-in-Ok c =
     (rw c.grammar_and_asked-grammar.ensures.asked at (rw (c.in-Ok.ensures.accepted ∙ c.grammar_and_asked-grammar.ensures.grammar) at c.tell_asked-reply.ensures)))
 
 pub returns-in-Err : goal.returns-in-Err
-returns-in-Err c = refuses-grammar _ c.in-Err.refused (spec_seen c.args.spec) c.args.spec.grammar _ refl (rw c.grammar_and_asked-grammar.ensures.grammar at c.in-Err.ensures.circular) c.not_accepted.ensures
+returns-in-Err c = refuses-grammar _ c.in-Err.refused (spec_seen c.args.spec) c.args.spec.grammar _ refl
+    (rw c.grammar_and_asked-grammar.ensures.grammar at c.in-Err.ensures.circular) c.not_accepted.ensures

@@ -5,7 +5,8 @@ use Rattle.aw_run.proofs.keeping.keep_source.Goals as goal
 
 pub returns-in-Err-clause-reply : goal.returns-in-Err-clause-reply
 returns-in-Err-clause-reply g c =
-    unread-keeping c.in-Err.error c.unread.result _ _ c.args.name.now c.args.sessions (around g.W.Wire g.D.Disk c.args.wire.now c.args.wire.now c.args.disk.now c.args.disk.now) c.unread.ensures (λ past. c.read_all.ensures.too_long (c.in-Err.is ∙ ap Err past))
+    unread-keeping c.in-Err.error c.unread.result _ _ c.args.name.now c.args.sessions (around g.W.Wire g.D.Disk c.args.wire.now c.args.wire.now
+    c.args.disk.now c.args.disk.now) c.unread.ensures (λ past. c.read_all.ensures.too_long (c.in-Err.is ∙ ap Err past))
 
 pub returns-in-Err-clause-stopped : goal.returns-in-Err-clause-stopped
 returns-in-Err-clause-stopped g c =

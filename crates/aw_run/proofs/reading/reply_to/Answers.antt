@@ -39,5 +39,6 @@ pub returns-in-Ok-clause-promises : goal.returns-in-Ok-clause-promises
 returns-in-Ok-clause-promises c =
     let behind : lines_of c.split_at.result.1.now ≡ drop c.in-Ok.spec.lines (lines_of c.args.input.now) = ap lines_of c.split_at.ensures.back ∙ c.in-Ok.ensures.rest in
     IfOk-weaker c.reply_to_specification.result _ _
-    (λ said holds done. good-input Promises c.args.job c.args.input.now (spec_seen c.in-Ok.spec) c.in-Ok.spec.lines c.in-Ok.spec.loads (lines_of c.split_at.result.1.now) c.in-Ok.ensures.exact behind (holds done))
+    (λ said holds done. good-input Promises c.args.job c.args.input.now (spec_seen c.in-Ok.spec) c.in-Ok.spec.lines c.in-Ok.spec.loads
+    (lines_of c.split_at.result.1.now) c.in-Ok.ensures.exact behind (holds done))
     c.reply_to_specification.ensures.promises

@@ -11,7 +11,8 @@ use Rattle.aw_run.proofs.running.prepare.Goals as goal
 pub returns-in-Reads-clause-reply : goal.returns-in-Reads-clause-reply
 returns-in-Reads-clause-reply g c =
     let spelled : command_of c.args.words.now ≡ Some (Reads c.in-Reads.job) = sym c.from_words.ensures ∙ c.in-Some.is ∙ ap Some c.in-Reads.is in
-    replies-read c.reply_to_source.result _ c.args.words.now (around g.W.Wire g.D.Disk c.args.wire.now c.args.wire.now c.args.disk.now c.args.disk.now) c.in-Reads.job spelled c.reply_to_source.ensures.reply
+    replies-read c.reply_to_source.result _ c.args.words.now (around g.W.Wire g.D.Disk c.args.wire.now c.args.wire.now c.args.disk.now
+    c.args.disk.now) c.in-Reads.job spelled c.reply_to_source.ensures.reply
 
 pub returns-in-Reads-clause-promises : goal.returns-in-Reads-clause-promises
 returns-in-Reads-clause-promises g c =
@@ -25,32 +26,39 @@ returns-in-Reads-clause-promises g c =
 pub returns-in-Tries-clause-reply : goal.returns-in-Tries-clause-reply
 returns-in-Tries-clause-reply g c =
     let spelled : command_of c.args.words.now ≡ Some (Tries c.in-Tries.number) = sym c.from_words.ensures ∙ c.in-Some.is ∙ ap Some c.in-Tries.is in
-    IfOk-weaker c.tell_trial.result _ _ (λ said is. for-any (g.S.Source.left c.args.src.now) c.args.words.now (around g.W.Wire g.D.Disk c.args.wire.now c.args.wire.now c.args.disk.now c.args.disk.now) c.in-Tries.number [] said spelled is) c.tell_trial.ensures.reply
+    IfOk-weaker c.tell_trial.result _ _ (λ said is. for-any (g.S.Source.left c.args.src.now) c.args.words.now
+    (around g.W.Wire g.D.Disk c.args.wire.now c.args.wire.now c.args.disk.now c.args.disk.now) c.in-Tries.number [] said spelled is)
+    c.tell_trial.ensures.reply
 
 pub returns-in-Serves-clause-reply : goal.returns-in-Serves-clause-reply
 returns-in-Serves-clause-reply g c =
     let spelled : command_of c.args.words.now ≡ Some (Serves c.in-Serves.sessions) = sym c.from_words.ensures ∙ c.in-Some.is ∙ ap Some c.in-Serves.is in
-    replies-node c.serve_source.result _ c.args.words.now (around g.W.Wire g.D.Disk c.args.wire.now c.serve_source.new.wire c.args.disk.now c.args.disk.now) _ c.in-Serves.sessions c.role_word.ensures spelled c.serve_source.ensures.reply
+    replies-node c.serve_source.result _ c.args.words.now (around g.W.Wire g.D.Disk c.args.wire.now c.serve_source.new.wire c.args.disk.now
+    c.args.disk.now) _ c.in-Serves.sessions c.role_word.ensures spelled c.serve_source.ensures.reply
 
 pub returns-in-Serves-clause-unserved : goal.returns-in-Serves-clause-unserved
 returns-in-Serves-clause-unserved g c = λ n is.
     let spelled : command_of c.args.words.now ≡ Some (Serves c.in-Serves.sessions) = sym c.from_words.ensures ∙ c.in-Some.is ∙ ap Some c.in-Serves.is in
-    stops-served c.serve_source.result status_of_stop _ c.args.words.now (wired g.W.Wire c.args.wire.now c.serve_source.new.wire) _ c.in-Serves.sessions n c.role_word.ensures spelled is c.serve_source.ensures.stopped
+    stops-served c.serve_source.result status_of_stop _ c.args.words.now (wired g.W.Wire c.args.wire.now c.serve_source.new.wire) _
+    c.in-Serves.sessions n c.role_word.ensures spelled is c.serve_source.ensures.stopped
 
 pub returns-in-Keeps-clause-reply : goal.returns-in-Keeps-clause-reply
 returns-in-Keeps-clause-reply g c =
     let spelled : command_of c.args.words.now ≡ Some (Keeps c.in-Keeps.sessions) = sym c.from_words.ensures ∙ c.in-Some.is ∙ ap Some c.in-Keeps.is in
-    replies-kept c.keep_source.result _ c.args.words.now (around g.W.Wire g.D.Disk c.args.wire.now c.keep_source.new.wire c.args.disk.now c.keep_source.new.disk) _ c.in-Keeps.sessions c.role_word-in-Keeps.ensures spelled c.keep_source.ensures.reply
+    replies-kept c.keep_source.result _ c.args.words.now (around g.W.Wire g.D.Disk c.args.wire.now c.keep_source.new.wire c.args.disk.now
+    c.keep_source.new.disk) _ c.in-Keeps.sessions c.role_word-in-Keeps.ensures spelled c.keep_source.ensures.reply
 
 pub returns-in-Keeps-clause-stopped : goal.returns-in-Keeps-clause-stopped
 returns-in-Keeps-clause-stopped g c = λ n is.
     let spelled : command_of c.args.words.now ≡ Some (Keeps c.in-Keeps.sessions) = sym c.from_words.ensures ∙ c.in-Some.is ∙ ap Some c.in-Keeps.is in
-    stops-kept c.keep_source.result status_of_stop _ c.args.words.now (around g.W.Wire g.D.Disk c.args.wire.now c.keep_source.new.wire c.args.disk.now c.keep_source.new.disk) _ c.in-Keeps.sessions n c.role_word-in-Keeps.ensures spelled is c.keep_source.ensures.stopped
+    stops-kept c.keep_source.result status_of_stop _ c.args.words.now (around g.W.Wire g.D.Disk c.args.wire.now c.keep_source.new.wire c.args.disk.now
+    c.keep_source.new.disk) _ c.in-Keeps.sessions n c.role_word-in-Keeps.ensures spelled is c.keep_source.ensures.stopped
 
 pub returns-in-Carries-clause-reply : goal.returns-in-Carries-clause-reply
 returns-in-Carries-clause-reply g c =
     let spelled : command_of c.args.words.now ≡ Some (Carries c.in-Carries.rounds) = sym c.from_words.ensures ∙ c.in-Some.is ∙ ap Some c.in-Carries.is in
-    replies-carried c.carry_source.result _ c.args.words.now (around g.W.Wire g.D.Disk c.args.wire.now c.carry_source.new.wire c.args.disk.now c.args.disk.now) c.in-Carries.rounds spelled c.carry_source.ensures.reply
+    replies-carried c.carry_source.result _ c.args.words.now (around g.W.Wire g.D.Disk c.args.wire.now c.carry_source.new.wire c.args.disk.now
+    c.args.disk.now) c.in-Carries.rounds spelled c.carry_source.ensures.reply
 
 pub returns-in-Carries-clause-broken : goal.returns-in-Carries-clause-broken
 returns-in-Carries-clause-broken g c = λ n is.

@@ -11,7 +11,8 @@ use Rattle.aw_run.proofs.Spelled.{Says-replayed}
 use Rattle.aw_run.proofs.Stops.{journal-stops, never-stops, refused-told, stop-complete}
 use Rattle.aw_run.specs.declared.words.Job.TheVariants.{Tells}
 use Rattle.aw_run.specs.declared.words.Telling.TheVariants.{Undivided, Replayed}
-use Rattle.aw_run.specs.Promises.{ArrivalsAnswer, KnowledgeStays, MessagesStayFew, NothingCircles, PlainIsTyped, ReplayIsTyped, RulesStayEnabled, Settled, SitesAnswerAsOne, SitesMerge, StartsStayEnabled, StaysAcyclic, WritesAnyOrder}
+use Rattle.aw_run.specs.Promises.{ArrivalsAnswer, KnowledgeStays, MessagesStayFew, NothingCircles, PlainIsTyped, ReplayIsTyped, RulesStayEnabled}
+use Rattle.aw_run.specs.Promises.{Settled, SitesAnswerAsOne, SitesMerge, StartsStayEnabled, StaysAcyclic, WritesAnyOrder}
 use Rattle.aw_run.proofs.running.run.Goals as goal
 
 pub returns-in-Ok-clause-cause : goal.returns-in-Ok-clause-cause
@@ -35,7 +36,8 @@ returns-in-Ok-clause-replay g c = λ is done.
     Says-job _ _ c.args.words.now (around g.W.Wire g.D.Disk c.args.wire.now c.prepare.new.wire c.args.disk.now c.prepare.new.disk) c.in-Ok.reply _ c.in-Ok.ensures.reply is told (search (rules, done))
 
 pub returns-in-Ok-clause-complete : goal.returns-in-Ok-clause-complete
-returns-in-Ok-clause-complete g c = Says-complete _ c.args.words.now (around g.W.Wire g.D.Disk c.args.wire.now c.prepare.new.wire c.args.disk.now c.prepare.new.disk) c.in-Ok.reply _ c.in-Ok.ensures.reply c.deliver.ensures.status
+returns-in-Ok-clause-complete g c = Says-complete _ c.args.words.now (around g.W.Wire g.D.Disk c.args.wire.now c.prepare.new.wire c.args.disk.now
+    c.prepare.new.disk) c.in-Ok.reply _ c.in-Ok.ensures.reply c.deliver.ensures.status
 
 pub returns-in-Ok-clause-acyclic : goal.returns-in-Ok-clause-acyclic
 returns-in-Ok-clause-acyclic g c = λ is done.
@@ -116,7 +118,8 @@ returns-in-Ok-clause-node g c = λ n is done.
 pub returns-in-Ok-clause-kept : goal.returns-in-Ok-clause-kept
 returns-in-Ok-clause-kept g c = λ n is done.
     let told : c.in-Ok.reply.status ≡ Done = elim c.deliver.ensures.status [ inl e ↦ sym e ∙ done | inr e ↦ absurd (cc (e, done)) ] in
-    Says-kept-node _ n c.args.words.now (around g.W.Wire g.D.Disk c.args.wire.now c.prepare.new.wire c.args.disk.now c.prepare.new.disk) c.in-Ok.reply _ c.in-Ok.ensures.reply is told (search (rules, done))
+    Says-kept-node _ n c.args.words.now (around g.W.Wire g.D.Disk c.args.wire.now c.prepare.new.wire c.args.disk.now c.prepare.new.disk) c.in-Ok.reply
+    _ c.in-Ok.ensures.reply is told (search (rules, done))
 
 pub returns-in-Ok-clause-unserved : goal.returns-in-Ok-clause-unserved
 returns-in-Ok-clause-unserved g c = λ n is stop. never-stops c.in-Ok.reply.status c.deliver.result c.in-Ok.ensures.is_reply c.deliver.ensures.status stop
@@ -132,7 +135,8 @@ returns-in-Ok-clause-refused g c = refused-told c.in-Ok.reply.status c.deliver.r
 
 pub returns-in-Err-clause-complete : goal.returns-in-Err-clause-complete
 returns-in-Err-clause-complete g c =
-    stop-complete _ c.args.words.now (around g.W.Wire g.D.Disk c.args.wire.now c.prepare.new.wire c.args.disk.now c.prepare.new.disk) c.in-Err.stop _ c.status.ensures (λ e. c.in-Err.ensures.net_command (ap Err e)) c.in-Err.ensures.disk_command
+    stop-complete _ c.args.words.now (around g.W.Wire g.D.Disk c.args.wire.now c.prepare.new.wire c.args.disk.now c.prepare.new.disk) c.in-Err.stop _
+    c.status.ensures (λ e. c.in-Err.ensures.net_command (ap Err e)) c.in-Err.ensures.disk_command
 
 pub returns-in-Err-clause-unserved : goal.returns-in-Err-clause-unserved
 returns-in-Err-clause-unserved g c = λ n is stops.
@@ -141,13 +145,15 @@ returns-in-Err-clause-unserved g c = λ n is stops.
 
 pub returns-in-Err-clause-stopped : goal.returns-in-Err-clause-stopped
 returns-in-Err-clause-stopped g c = λ n is stops.
-    subst (λ st. ForInput (g.S.Source.left c.args.src.now) (λ input. StopsKeeping (role_word c.args.words.now) n (around g.W.Wire g.D.Disk c.args.wire.now c.prepare.new.wire c.args.disk.now c.prepare.new.disk) input st))
+    subst (λ st. ForInput (g.S.Source.left c.args.src.now) (λ input. StopsKeeping (role_word c.args.words.now) n
+    (around g.W.Wire g.D.Disk c.args.wire.now c.prepare.new.wire c.args.disk.now c.prepare.new.disk) input st))
     (sym c.status.ensures) (c.in-Err.ensures.stopped n is)
 
 pub returns-in-Ok-clause-courier : goal.returns-in-Ok-clause-courier
 returns-in-Ok-clause-courier g c = λ n is done.
     let told : c.in-Ok.reply.status ≡ Done = elim c.deliver.ensures.status [ inl e ↦ sym e ∙ done | inr e ↦ absurd (cc (e, done)) ] in
-    Says-carried _ n c.args.words.now (around g.W.Wire g.D.Disk c.args.wire.now c.prepare.new.wire c.args.disk.now c.prepare.new.disk) c.in-Ok.reply _ c.in-Ok.ensures.reply is told (search (rules, done))
+    Says-carried _ n c.args.words.now (around g.W.Wire g.D.Disk c.args.wire.now c.prepare.new.wire c.args.disk.now c.prepare.new.disk) c.in-Ok.reply _
+    c.in-Ok.ensures.reply is told (search (rules, done))
 
 pub returns-in-Ok-clause-broken : goal.returns-in-Ok-clause-broken
 returns-in-Ok-clause-broken g c = λ n is stop. never-stops c.in-Ok.reply.status c.deliver.result c.in-Ok.ensures.is_reply c.deliver.ensures.status stop

@@ -18,7 +18,8 @@ replay_schedule-told-requires-clause-may c =
 pub returns : goal.returns
 returns c =
     tells_replayed c.args.accepted.now c.args.loads c.args.reader.now c.replay_schedule-told.result
-    (told_in _ All c.args.reader.now c.in_ok-world.world c.replay_schedule-told.new.world c.replay_schedule-told.result c.args.accepted.now c.args.loads c.in_ok-world.ensures.accepted c.in_ok-world.ensures.loads
+    (told_in _ All c.args.reader.now c.in_ok-world.world c.replay_schedule-told.new.world c.replay_schedule-told.result c.args.accepted.now
+    c.args.loads c.in_ok-world.ensures.accepted c.in_ok-world.ensures.loads
     c.replay_schedule-told.ensures.replays)
 
 pub returns-in_err-world : goal.returns-in_err-world

@@ -32,7 +32,8 @@ returns-in-Ok-clause-promises c =
     let t = c.args.typed.now in
     let lines = lines_of c.args.schedule.now in
     let all = read_all c.new-reader.result (types_of t.types) _ a.grammar c.args.schedule.now c.new-reader.ensures.left c.grammar-g.ensures.value in
-    promised c.args.telling a t c.args.before c.args.loads lines c.new-reader.result all c.requires.made (c.new-reader.ensures.grammar ∙ c.grammar-g.ensures.value) c.new-reader.ensures.typed c.in-Ok.ensures.0 c.in-Ok.ensures.1
+    promised c.args.telling a t c.args.before c.args.loads lines c.new-reader.result all c.requires.made (c.new-reader.ensures.grammar
+    ∙ c.grammar-g.ensures.value) c.new-reader.ensures.typed c.in-Ok.ensures.0 c.in-Ok.ensures.1
 
 pub returns-in-Err-TooLarge-clause-reply : goal.returns-in-Err-TooLarge-clause-reply
 returns-in-Err-TooLarge-clause-reply c =
@@ -50,7 +51,8 @@ returns-in-Err-TooLarge-clause-promises c =
     let lines = lines_of c.args.schedule.now in
     let all = read_all c.new-reader.result (types_of t.types) _ a.grammar c.args.schedule.now c.new-reader.ensures.left c.grammar-g.ensures.value in
     let told = subst (λ z. TellsLeft c.args.telling a c.args.loads c.new-reader.result (Err z)) c.in-Err-TooLarge.field-0-is c.in-Err-TooLarge.ensures in
-    promised c.args.telling a t c.args.before c.args.loads lines c.new-reader.result all c.requires.made (c.new-reader.ensures.grammar ∙ c.grammar-g.ensures.value) c.new-reader.ensures.typed told.0 told.1
+    promised c.args.telling a t c.args.before c.args.loads lines c.new-reader.result all c.requires.made (c.new-reader.ensures.grammar
+    ∙ c.grammar-g.ensures.value) c.new-reader.ensures.typed told.0 told.1
 
 pub overflow_add-before : goal.overflow_add-before
 overflow_add-before c =
@@ -78,4 +80,5 @@ returns-in-Err-Bad-clause-promises c =
     let lines = lines_of c.args.schedule.now in
     let all = read_all c.new-reader.result (types_of t.types) _ a.grammar c.args.schedule.now c.new-reader.ensures.left c.grammar-g.ensures.value in
     let faulty : left c.new-reader.result ≡ FaultAt c.in-Err-Bad.line c.in-Err-Bad.kind = rw c.in-Err-Bad.field-0-is at c.in-Err-Bad.ensures in
-    IfOk-weaker c.bad_schedule.result _ _ (λ said w. refused_promised c.args.telling a t c.args.before c.args.loads lines c.new-reader.result all c.in-Err-Bad.line c.in-Err-Bad.kind faulty) c.bad_schedule.ensures
+    IfOk-weaker c.bad_schedule.result _ _ (λ said w. refused_promised c.args.telling a t c.args.before c.args.loads lines c.new-reader.result all
+    c.in-Err-Bad.line c.in-Err-Bad.kind faulty) c.bad_schedule.ensures

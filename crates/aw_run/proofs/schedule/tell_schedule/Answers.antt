@@ -20,7 +20,8 @@ returns-in-Err-clause-reply c = refuses-grammar _ c.in-Err.refused (spec_seen c.
 
 pub returns-in-Ok-clause-promises : goal.returns-in-Ok-clause-promises
 returns-in-Ok-clause-promises c =
-    IfOk-weaker c.reply_to_schedule-reply.result _ _ (λ said holds done. holds (spec_seen c.args.spec) refl (sym c.requires.types)) (rw (c.in-Ok.ensures.accepted ∙ c.grammar_alone.ensures) at c.reply_to_schedule-reply.ensures.promises)
+    IfOk-weaker c.reply_to_schedule-reply.result _ _ (λ said holds done. holds (spec_seen c.args.spec) refl (sym c.requires.types))
+    (rw (c.in-Ok.ensures.accepted ∙ c.grammar_alone.ensures) at c.reply_to_schedule-reply.ensures.promises)
 
 pub returns-in-Err-clause-promises : goal.returns-in-Err-clause-promises
 returns-in-Err-clause-promises c = refused-grammar _ c.in-Err.refused _ c.not_accepted.ensures

@@ -15,7 +15,8 @@ pub returns-in-Ready-clause-stopped : goal.returns-in-Ready-clause-stopped
 returns-in-Ready-clause-stopped g c =
     let (s, opens, ready) = rw c.in-Ready.is at c.in_ok-opened.ensures in
     IfErr-weaker c.serve_named-came.result _ _
-    (λ stop is. stops-node c.args.name.now c.args.sessions (wired g.W.Wire c.args.wire.now c.serve_named-came.new.wire) c.args.input.now s (status_of_stop stop) opens (is s ready.declared ready.types))
+    (λ stop is. stops-node c.args.name.now c.args.sessions (wired g.W.Wire c.args.wire.now c.serve_named-came.new.wire) c.args.input.now s
+    (status_of_stop stop) opens (is s ready.declared ready.types))
     c.serve_named-came.ensures.stopped
 
 pub returns-in-Refused-clause-reply : goal.returns-in-Refused-clause-reply

@@ -28,7 +28,8 @@ ground-returns-in_err-add_grounds-in-Parts t c =
     let e = c.in_err-add_grounds-in-Parts.field-0.0 in
     let failed : c.from_residual-in_err-add_grounds-in-Parts.result ≡ Err e = error_is c.from_residual-in_err-add_grounds-in-Parts.result e c.from_residual-in_err-add_grounds-in-Parts.ensures.1 in
     subst (λ r. Finds ground_of (known_ground cons (written_of c.args.term)) r) (sym failed)
-    (root_unknown cons (written_of c.args.term) c.in-Parts.con (map written_of c.in-Parts.parts) root.0 {X = Unit {0}} (λ _. map ground_of c.add_grounds.new.found) e c.in_err-add_grounds-in-Parts.ensures)
+    (root_unknown cons (written_of c.args.term) c.in-Parts.con (map written_of c.in-Parts.parts) root.0 {X = Unit {0}}
+    (λ _. map ground_of c.add_grounds.new.found) e c.in_err-add_grounds-in-Parts.ensures)
 
 pub ground-returns-in_ok-add_grounds-in-Parts : goal.ground-returns-in_ok-add_grounds-in-Parts
 ground-returns-in_ok-add_grounds-in-Parts t c =

@@ -22,4 +22,5 @@ returns-in_ok-with_capacity-in-40 c =
 pub returns-in_default-behind_blanks : goal.returns-in_default-behind_blanks
 returns-in_default-behind_blanks c depth room left some e =
     let is = c.in_ok-con in
-    word_read c.args.g.now.cons depth room left c.in-Some.name.now is.con is.arity c.new.result c.args.bytes.now c.in-Some.rest.now some e is.ensures c.if-arity-eq0.true c.new.ensures c.in-Some.ensures
+    word_read c.args.g.now.cons depth room left c.in-Some.name.now is.con is.arity c.new.result c.args.bytes.now c.in-Some.rest.now some e is.ensures
+    c.if-arity-eq0.true c.new.ensures c.in-Some.ensures

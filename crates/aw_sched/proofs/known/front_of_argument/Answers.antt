@@ -15,8 +15,10 @@ returns-in-34 c =
 
 pub returns-in-48-to-57 : goal.returns-in-48-to-57
 returns-in-48-to-57 c =
-    IfOk-weaker c.number_argument.result _ _ (λ x h. front_behind c.args.g.now.cons c.args.line.now c.behind_blanks-bytes.result.now x.0 x.1.now c.behind_blanks-bytes.ensures (h c.args.g.now.cons)) c.number_argument.ensures
+    IfOk-weaker c.number_argument.result _ _ (λ x h. front_behind c.args.g.now.cons c.args.line.now c.behind_blanks-bytes.result.now x.0 x.1.now
+    c.behind_blanks-bytes.ensures (h c.args.g.now.cons)) c.number_argument.ensures
 
 pub returns-in_default : goal.returns-in_default
 returns-in_default c =
-    IfOk-weaker c.constructor_front.result _ _ (λ x h. front_behind c.args.g.now.cons c.args.line.now c.behind_blanks-bytes.result.now x.0 x.1.now c.behind_blanks-bytes.ensures h) c.constructor_front.ensures
+    IfOk-weaker c.constructor_front.result _ _ (λ x h. front_behind c.args.g.now.cons c.args.line.now c.behind_blanks-bytes.result.now x.0 x.1.now
+    c.behind_blanks-bytes.ensures h) c.constructor_front.ensures

@@ -24,10 +24,12 @@ pub returns-then-args_ok : goal.returns-then-args_ok
 returns-then-args_ok c =
     let g = c.args.g.now in
     let args = map written_of c.args.args in
-    args_found g c.args.rule.now args c.in-Some.rule c.in_ok-args.args (sym c.args_are_past.ensures ∙ c.if-args_are_past.false) c.in-Some.ensures c.in_ok-args.ensures c.requires (sym c.args_ok.ensures ∙ c.if-args_ok.true)
+    args_found g c.args.rule.now args c.in-Some.rule c.in_ok-args.args (sym c.args_are_past.ensures ∙ c.if-args_are_past.false) c.in-Some.ensures
+    c.in_ok-args.ensures c.requires (sym c.args_ok.ensures ∙ c.if-args_ok.true)
 
 pub returns-else-args_ok : goal.returns-else-args_ok
 returns-else-args_ok c =
     let g = c.args.g.now in
     let args = map written_of c.args.args in
-    args_misfit g c.args.rule.now args c.in-Some.rule c.in_ok-args.args (sym c.args_are_past.ensures ∙ c.if-args_are_past.false) c.in-Some.ensures c.in_ok-args.ensures c.requires (sym c.args_ok.ensures ∙ c.if-args_ok.false)
+    args_misfit g c.args.rule.now args c.in-Some.rule c.in_ok-args.args (sym c.args_are_past.ensures ∙ c.if-args_are_past.false) c.in-Some.ensures
+    c.in_ok-args.ensures c.requires (sym c.args_ok.ensures ∙ c.if-args_ok.false)

@@ -22,7 +22,8 @@ returns-in_err-event-clause-answer c =
     let i = c.loop-events.invariant in
     let same : c.from_residual.result ≡ Err c.in_err-event.field-0.0 = search rules in
     subst (λ r. Answers r c.from_residual.result) c.new-reader.ensures.left
-    (subst (Answers (left c.new-reader.result)) (sym same) (fault_answers c.new-reader.result c.loop-events.reader c.loop-events.events c.in_err-event.field-0.0 (left c.next.new.self) i.read c.in_err-event.ensures.next))
+    (subst (Answers (left c.new-reader.result)) (sym same) (fault_answers c.new-reader.result c.loop-events.reader c.loop-events.events
+    c.in_err-event.field-0.0 (left c.next.new.self) i.read c.in_err-event.ensures.next))
 
 pub loop-events-preserved : goal.loop-events-preserved
 loop-events-preserved c =
@@ -33,7 +34,8 @@ loop-events-preserved c =
       grammar = n.grammar ∙ i.grammar;
       typed = n.typed ∙ i.typed;
       read = subst (λ es. AreRead c.new-reader.result es (left c.next.new.self)) (sym c.in_ok-push.ensures.ok)
-          (next_read c.new-reader.result c.loop-events.reader c.loop-events.events (left c.next.new.self) i.grammar i.typed i.read c.next.new.self refl c.in_ok-event.field-0 c.in-Some.event c.in-Some.is n.next n.fits n.types);
+          (next_read c.new-reader.result c.loop-events.reader c.loop-events.events (left c.next.new.self) i.grammar i.typed i.read c.next.new.self
+          refl c.in_ok-event.field-0 c.in-Some.event c.in-Some.is n.next n.fits n.types);
     }
 
 pub returns-clause-answer : goal.returns-clause-answer

@@ -8,7 +8,14 @@ returns-in_err-reply-clause-err g c = err-passed _ _ _ c.from_residual.ensures.1
 
 pub returns-in-Ok-clause-ok : goal.returns-in-Ok-clause-ok
 returns-in-Ok-clause-ok g c = λ from to taken sound.
-    record { request = frame_of c.args.frame.now; reply = c.in_ok-reply.reply; taken = taken; sound = sound; answered = c.in_ok-reply.ensures.ok; talked = rw c.as_slice.ensures at c.in-Ok.ensures.all }
+    record {
+      request = frame_of c.args.frame.now;
+      reply = c.in_ok-reply.reply;
+      taken = taken;
+      sound = sound;
+      answered = c.in_ok-reply.ensures.ok;
+      talked = rw c.as_slice.ensures at c.in-Ok.ensures.all;
+    }
 
 pub returns-clause-ok : goal.returns-clause-ok
 returns-clause-ok g c = λ from to taken sound.

@@ -11,4 +11,5 @@ returns-in-Ok-clause-ok g c = (
 
 pub returns-in-Err-serve_session-clause-err : goal.returns-in-Err-serve_session-clause-err
 returns-in-Err-serve_session-clause-err g c =
-    next-halted _ _ _ g.W.Wire.is_open g.W.Wire.faults _ c.args.role _ _ c.args.wire.now c.next_session.new.self c.serve_session.new.wire c.in-Err-serve_session.fault c.in-Session.ensures.content c.in-Err-serve_session.ensures.err
+    next-halted _ _ _ g.W.Wire.is_open g.W.Wire.faults _ c.args.role _ _ c.args.wire.now c.next_session.new.self c.serve_session.new.wire
+    c.in-Err-serve_session.fault c.in-Session.ensures.content c.in-Err-serve_session.ensures.err

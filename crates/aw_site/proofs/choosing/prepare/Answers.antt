@@ -42,7 +42,8 @@ returns-clause-prepares g c = λ s h.
     let k = g.F.Facts.map space.facts in
     let made = c.args.foreseen.made in
     let holds = seen_by g.F.Facts space c.args.subs.now c.args.loads s c.args.g.now.grammar c.requires.grammar h in
-    let foretold = subst (λ (x : program.Grammar). IsMade made ch (S.outcome gr (space_of (grammar_of x) space.held.items space.choices.items k) ch)) (sym c.requires.grammar) c.requires.foreseen.made in
+    let foretold = subst (λ (x : program.Grammar). IsMade made ch (S.outcome gr (space_of (grammar_of x) space.held.items space.choices.items k) ch))
+    (sym c.requires.grammar) c.requires.foreseen.made in
     let t = worked gr s ch (outcome gr s ch) in
     let behind = equations_behind gr s ch space.held.items space.choices.items k made holds c.requires.ok foretold in
     let sends = sends_as g.F.Facts _ t k made.equations (h.role ∙ sym c.role.ensures) h.flag (λ r. ap (λ (m : Map). find m r) behind) (ap g.F.Facts.map c.facts.ensures) c.as_slice.ensures in

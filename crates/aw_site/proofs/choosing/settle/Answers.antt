@@ -55,7 +55,8 @@ returns-in-Ok-clause-copy g c = λ s shows.
 
 pub returns-in-Ok-clause-short : goal.returns-in-Ok-clause-short
 returns-in-Ok-clause-short g c =
-    short_more c.args.outbox.now.items c.prepare_with_room.new.outbox.items c.in_ok-outcome.field-0.plan.sent.items c.carry_out.new.outbox.items c.prepare_with_room.ensures.outbox c.carry_out.ensures.outbox c.in_ok-outcome.ensures.short
+    short_more c.args.outbox.now.items c.prepare_with_room.new.outbox.items c.in_ok-outcome.field-0.plan.sent.items c.carry_out.new.outbox.items
+    c.prepare_with_room.ensures.outbox c.carry_out.ensures.outbox c.in_ok-outcome.ensures.short
 
 pub returns-in_err-outcome-clause-err : goal.returns-in_err-outcome-clause-err
 returns-in_err-outcome-clause-err g c = if_err c.from_residual.result

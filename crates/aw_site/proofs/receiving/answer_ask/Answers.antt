@@ -27,7 +27,8 @@ returns-in-Ok-clause-site g c = λ s shows.
 
 pub returns-in-Ok-clause-short : goal.returns-in-Ok-clause-short
 returns-in-Ok-clause-short g c =
-    short_more c.args.outbox.now.items c.make_room.new.outbox.items c.in_ok-plan.plan.sent.items c.carry_out.new.outbox.items c.make_room.ensures.outbox c.carry_out.ensures.outbox c.in_ok-make_room.ensures.short
+    short_more c.args.outbox.now.items c.make_room.new.outbox.items c.in_ok-plan.plan.sent.items c.carry_out.new.outbox.items
+    c.make_room.ensures.outbox c.carry_out.ensures.outbox c.in_ok-make_room.ensures.short
 
 pub returns-in_err-make_room-clause-err : goal.returns-in_err-make_room-clause-err
 returns-in_err-make_room-clause-err g c = if_err c.from_residual-in_err-make_room.result

@@ -37,7 +37,8 @@ returns g c =
     (λ p wanted sent s h.
     let t = holding s call es in
     let equations = equations_by g.F.Facts c.args.space.now c.args.subs.now c.args.loads s c.args.g.now.grammar c.requires.grammar h in
-    let sends = sends_as g.F.Facts _ t k c.args.es.now (h.role ∙ sym c.role.ensures) h.flag (λ x. came_behind s k call c.args.es.now x equations) (ap g.F.Facts.map c.facts.ensures) c.as_slice.ensures in
+    let sends = sends_as g.F.Facts _ t k c.args.es.now (h.role ∙ sym c.role.ensures) h.flag (λ x. came_behind s k call c.args.es.now x equations)
+    (ap g.F.Facts.map c.facts.ensures) c.as_slice.ensures in
     planned_came gr (grammar_of c.grammar.result.now) s call es _ p (ap grammar_of c.grammar.ensures.value)
     (λ i. (c.as_slice-2.ensures ∙ c.in_ok-inherited.ensures gr) i ++ all_mentions (map equation_of (c.as_slice-3.ensures i)))
     (wanted t sends h.asked) (sent t sends))

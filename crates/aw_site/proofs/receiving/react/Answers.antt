@@ -18,7 +18,8 @@ take_in-count-requires-clause-call g c =
     let role = c.args.space.now.role in
     let m = message_of gr c.args.m.now in
     let holds = HoldsAs g.F.Facts c.args.space.now c.args.subs.now c.args.loads in
-    (call_fits gr role c.args.m.now c.in-Call.node _ c.in-Call.inherited _ c.in-Call.load c.args.es (sym c.get.ensures ∙ c.in-Call.is) c.in-Ok.ensures.node c.in-Ok.ensures.inherited (c.requires.carried gr)
+    (call_fits gr role c.args.m.now c.in-Call.node _ c.in-Call.inherited _ c.in-Call.load c.args.es (sym c.get.ensures ∙ c.in-Call.is)
+    c.in-Ok.ensures.node c.in-Ok.ensures.inherited (c.requires.carried gr)
     (fresh_ok gr role holds m c.requires.holds (λ s h. h.role) c.requires.fresh) (fresh_mine gr role holds m c.requires.holds (λ s h. h.role) c.requires.fresh)).0
 
 pub take_in-count-requires-clause-ok : goal.take_in-count-requires-clause-ok
@@ -27,7 +28,8 @@ take_in-count-requires-clause-ok g c =
     let role = c.args.space.now.role in
     let m = message_of gr c.args.m.now in
     let holds = HoldsAs g.F.Facts c.args.space.now c.args.subs.now c.args.loads in
-    (call_fits gr role c.args.m.now c.in-Call.node c.in-Ok.placing.node c.in-Call.inherited c.in-Ok.placing.inherited c.in-Call.load c.args.es (sym c.get.ensures ∙ c.in-Call.is) c.in-Ok.ensures.node c.in-Ok.ensures.inherited (c.requires.carried gr)
+    (call_fits gr role c.args.m.now c.in-Call.node c.in-Ok.placing.node c.in-Call.inherited c.in-Ok.placing.inherited c.in-Call.load c.args.es
+    (sym c.get.ensures ∙ c.in-Call.is) c.in-Ok.ensures.node c.in-Ok.ensures.inherited (c.requires.carried gr)
     (fresh_ok gr role holds m c.requires.holds (λ s h. h.role) c.requires.fresh) (fresh_mine gr role holds m c.requires.holds (λ s h. h.role) c.requires.fresh)).1
 
 pub take_in-count-requires-clause-free : goal.take_in-count-requires-clause-free
@@ -35,7 +37,8 @@ take_in-count-requires-clause-free g c =
     let gr = grammar_of c.args.g.now.grammar in
     let role = c.args.space.now.role in
     let holds = HoldsAs g.F.Facts c.args.space.now c.args.subs.now c.args.loads in
-    fresh_free gr role holds (message_of gr c.args.m.now) c.requires.holds (λ s h. h.role) c.requires.fresh (space_seen g.F.Facts c.args.space.now) (Some (call_of gr c.in-Ok.placing.node c.in-Ok.placing.inherited)) (map equation_of c.args.es)
+    fresh_free gr role holds (message_of gr c.args.m.now) c.requires.holds (λ s h. h.role) c.requires.fresh (space_seen g.F.Facts c.args.space.now)
+    (Some (call_of gr c.in-Ok.placing.node c.in-Ok.placing.inherited)) (map equation_of c.args.es)
     (λ s h. call_clashes gr s (space_seen g.F.Facts c.args.space.now) c.args.m.now.kind c.in-Call.node c.in-Ok.placing.node c.in-Call.inherited c.in-Ok.placing.inherited c.in-Call.load c.args.es
     (sym c.get.ensures ∙ c.in-Call.is) c.in-Ok.ensures.node c.in-Ok.ensures.inherited (c.requires.carried gr) h.holds)
 
@@ -44,7 +47,8 @@ answer_ask-requires-clause-role g c =
     let gr = grammar_of c.args.g.now.grammar in
     let role = c.args.space.now.role in
     let holds = HoldsAs g.F.Facts c.args.space.now c.args.subs.now c.args.loads in
-    subst (λ k. IsOfRole (plain_kind k)) (sym c.get.ensures ∙ c.in-Ask.is) (of_role c.args.g.now.grammar role c.args.m.now (fresh_ok gr role holds (message_of gr c.args.m.now) c.requires.holds (λ s h. h.role) c.requires.fresh))
+    subst (λ k. IsOfRole (plain_kind k)) (sym c.get.ensures ∙ c.in-Ask.is) (of_role c.args.g.now.grammar role c.args.m.now
+    (fresh_ok gr role holds (message_of gr c.args.m.now) c.requires.holds (λ s h. h.role) c.requires.fresh))
 
 pub take_in-requires-clause-ok : goal.take_in-requires-clause-ok
 take_in-requires-clause-ok g c =
@@ -88,7 +92,8 @@ returns-in-Ok-clause-copy g c =
     let gr = grammar_of c.args.g.now.grammar in
     on_ok c.take_in-count.result _ _
     (λ h s shows. h s shows
-    ∙ ap (λ (x : Reaction). map (message_of gr) c.args.copy.now.items ++ x.sent) (reacts_to_call gr s c.args.m.now.kind c.in-Call.node c.in-Ok.placing.node c.in-Call.inherited c.in-Ok.placing.inherited c.in-Call.load c.args.es
+    ∙ ap (λ (x : Reaction). map (message_of gr) c.args.copy.now.items ++ x.sent) (reacts_to_call gr s c.args.m.now.kind c.in-Call.node
+    c.in-Ok.placing.node c.in-Call.inherited c.in-Ok.placing.inherited c.in-Call.load c.args.es
     (sym c.get.ensures ∙ c.in-Call.is) c.in-Ok.ensures.node c.in-Ok.ensures.inherited (c.requires.carried gr)))
     c.take_in-count.ensures.copy
 
@@ -96,12 +101,14 @@ pub returns-in-Tell-clause-count : goal.returns-in-Tell-clause-count
 returns-in-Tell-clause-count g c =
     let gr = grammar_of c.args.g.now.grammar in
     IfOk-weaker c.take_in.result _ _
-    (λ n h s shows. h s shows ∙ ap (λ (x : Reaction). length x.sent) (reacts_to_tell gr s c.args.m.now.kind c.in-Tell.equation c.in-Tell.load c.args.es (sym c.get.ensures ∙ c.in-Tell.is) (c.requires.carried gr)))
+    (λ n h s shows. h s shows ∙ ap (λ (x : Reaction). length x.sent) (reacts_to_tell gr s c.args.m.now.kind c.in-Tell.equation c.in-Tell.load
+    c.args.es (sym c.get.ensures ∙ c.in-Tell.is) (c.requires.carried gr)))
     c.take_in.ensures.count
 
 pub returns-in-Tell-clause-copy : goal.returns-in-Tell-clause-copy
 returns-in-Tell-clause-copy g c =
     let gr = grammar_of c.args.g.now.grammar in
     on_ok c.take_in.result _ _
-    (λ h s shows. h s shows ∙ ap (λ (x : Reaction). map (message_of gr) c.args.copy.now.items ++ x.sent) (reacts_to_tell gr s c.args.m.now.kind c.in-Tell.equation c.in-Tell.load c.args.es (sym c.get.ensures ∙ c.in-Tell.is) (c.requires.carried gr)))
+    (λ h s shows. h s shows ∙ ap (λ (x : Reaction). map (message_of gr) c.args.copy.now.items ++ x.sent)
+    (reacts_to_tell gr s c.args.m.now.kind c.in-Tell.equation c.in-Tell.load c.args.es (sym c.get.ensures ∙ c.in-Tell.is) (c.requires.carried gr)))
     c.take_in.ensures.copy

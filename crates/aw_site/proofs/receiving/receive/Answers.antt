@@ -49,7 +49,8 @@ returns-in_ok-count-in-Fresh-clause-site g c = λ s shows.
     let gr = grammar_of c.args.g.now.grammar in
     let m = message_of gr c.args.m.now in
     let new = new_here gr s m (subst (Sees gr s m) c.in-Fresh.is (c.in_ok-answer.ensures.sees c.args.loads s shows.holds)) in
-    subst (λ (x : Received Reaction). Shows g.F.Facts c.react.new.space c.react.new.subs c.react.new.outbox.items c.args.loads (after_message s x)) (sym new) (c.in_ok-count-in-Fresh.ensures.site s shows)
+    subst (λ (x : Received Reaction). Shows g.F.Facts c.react.new.space c.react.new.subs c.react.new.outbox.items c.args.loads (after_message s x))
+    (sym new) (c.in_ok-count-in-Fresh.ensures.site s shows)
 
 pub returns-in_ok-count-in-Fresh-clause-copy : goal.returns-in_ok-count-in-Fresh-clause-copy
 returns-in_ok-count-in-Fresh-clause-copy g c = λ s shows.

@@ -28,7 +28,8 @@ returns-in-Ok-take_in-clause-site g c = λ s shows.
 
 pub returns-in-Ok-take_in-clause-short : goal.returns-in-Ok-take_in-clause-short
 returns-in-Ok-take_in-clause-short g c =
-    short_more c.args.outbox.now.items c.plan_with_room.new.outbox.items c.in-Ok.plan.sent.items c.carry_out.new.outbox.items c.plan_with_room.ensures.outbox c.carry_out.ensures.outbox c.in-Ok.ensures.short
+    short_more c.args.outbox.now.items c.plan_with_room.new.outbox.items c.in-Ok.plan.sent.items c.carry_out.new.outbox.items
+    c.plan_with_room.ensures.outbox c.carry_out.ensures.outbox c.in-Ok.ensures.short
 
 pub returns-in-Err-clause-err : goal.returns-in-Err-clause-err
 returns-in-Err-clause-err g c =

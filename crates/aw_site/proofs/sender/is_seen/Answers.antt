@@ -10,9 +10,11 @@ use Rattle.aw_site.proofs.sender.is_seen.Goals as goal
 pub returns-then-is_first : goal.returns-then-is_first
 returns-then-is_first c =
     c.if-is_first.true
-    ∙ sym (seen_found c.args.r.now c.args.load.now (listed (option_copied c.args.first)) ∙ ap (λ b. b || is_some (find (map equation_of c.args.load.now) c.args.r.now)) (sym c.is_first.ensures ∙ c.if-is_first.true))
+    ∙ sym (seen_found c.args.r.now c.args.load.now (listed (option_copied c.args.first))
+    ∙ ap (λ b. b || is_some (find (map equation_of c.args.load.now) c.args.r.now)) (sym c.is_first.ensures ∙ c.if-is_first.true))
 
 pub returns-else-is_first : goal.returns-else-is_first
 returns-else-is_first c =
     c.is_behind.ensures
-    ∙ sym (seen_found c.args.r.now c.args.load.now (listed (option_copied c.args.first)) ∙ ap (λ b. b || is_some (find (map equation_of c.args.load.now) c.args.r.now)) (sym c.is_first.ensures ∙ c.if-is_first.false))
+    ∙ sym (seen_found c.args.r.now c.args.load.now (listed (option_copied c.args.first))
+    ∙ ap (λ b. b || is_some (find (map equation_of c.args.load.now) c.args.r.now)) (sym c.is_first.ensures ∙ c.if-is_first.false))

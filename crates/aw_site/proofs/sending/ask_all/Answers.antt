@@ -12,7 +12,8 @@ loop-r-init c = record {
 
 pub loop-r-preserved : goal.loop-r-preserved
 loop-r-preserved c = record {
-  asked = λ asked shows. asked_next c.ask_ready.new.subs asked c.args.wanted.now c.loop-r.r-index c.r-item.result c.loop-r-test.true c.r-item.is (c.ask_ready.ensures.asked _ (c.loop-r.invariant.asked asked shows));
+  asked = λ asked shows. asked_next c.ask_ready.new.subs asked c.args.wanted.now c.loop-r.r-index c.r-item.result c.loop-r-test.true c.r-item.is
+      (c.ask_ready.ensures.asked _ (c.loop-r.invariant.asked asked shows));
   watched = λ ws shows. c.ask_ready.ensures.watchers ws (c.loop-r.invariant.watched ws shows);
   ready = λ x h. c.ask_ready.ensures.ready x (c.loop-r.invariant.ready x h);
 }

@@ -21,7 +21,8 @@ invariant-loop-e g l = record {
   named : all_named (g.F.Facts.names l.facts) (lefts_of (map equation_of (into_iter_items l.e-iterator))) ≡ true;
   names : Grows (g.F.Facts.names l.fn.facts) (g.F.Facts.names l.facts);
   fits : IsFitKept (grammar_of l.grammar) (g.F.Facts.names l.facts) l.kept;
-  kept : (hs : List Held) → IsKept (grammar_of l.grammar) hs (g.F.Facts.map l.fn.facts) (g.F.Facts.names l.fn.facts) l.fn.kept → IsKept (grammar_of l.grammar) hs (g.F.Facts.map l.facts) (g.F.Facts.names l.facts) l.kept;
+  kept : (hs : List Held) → IsKept (grammar_of l.grammar) hs (g.F.Facts.map l.fn.facts) (g.F.Facts.names l.fn.facts) l.fn.kept →
+      IsKept (grammar_of l.grammar) hs (g.F.Facts.map l.facts) (g.F.Facts.names l.facts) l.kept;
   steps : (hs : List Held) → IsKept (grammar_of l.grammar) hs (g.F.Facts.map l.fn.facts) (g.F.Facts.names l.fn.facts) l.fn.kept →
       l.steps + turns_cost (grammar_of l.grammar) (all_of (grammar_of l.grammar) hs) (g.F.Facts.map l.facts) (map equation_of (into_iter_items l.e-iterator))
       ≤ l.fn.steps + turns_cost (grammar_of l.grammar) (all_of (grammar_of l.grammar) hs) (g.F.Facts.map l.fn.facts) (map equation_of l.fn.es.items);

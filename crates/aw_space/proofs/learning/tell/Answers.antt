@@ -43,7 +43,8 @@ returns-in-New-clause-steps g c hs w =
     omega (
       arith,
       c.learn.ensures.steps,
-      pairs_wait names (g.met.F.Facts.once c.add.new.self) c.args.slot c.args.e.left here gr k hs kept.numbers.items kept.records.items kept.work.waiting (named_more gr hs k _ names kept c.add.ensures.names w),
+      pairs_wait names (g.met.F.Facts.once c.add.new.self) c.args.slot c.args.e.left here gr k hs kept.numbers.items kept.records.items
+          kept.work.waiting (named_more gr hs k _ names kept c.add.ensures.names w),
     )
 
 pub returns-in_default-clause-fits : goal.returns-in_default-clause-fits

@@ -10,7 +10,8 @@ use Rattle.aw_space.proofs.learning.wake_all.Goals as goal
 pub wake-requires-clause-known : goal.wake-requires-clause-known
 wake-requires-clause-known g c =
     let rs = c.args.lefts.now in
-    all_here (g.F.Facts.map c.args.facts.now) rs c.loop-left.left-index c.left-item.result (slice_get_read rs (length rs) c.loop-left.left-index c.left-item.result refl c.loop-left-test.true c.left-item.is) c.requires.known
+    all_here (g.F.Facts.map c.args.facts.now) rs c.loop-left.left-index c.left-item.result (slice_get_read rs (length rs) c.loop-left.left-index
+    c.left-item.result refl c.loop-left-test.true c.left-item.is) c.requires.known
 
 pub loop-left-preserved : goal.loop-left-preserved
 loop-left-preserved g c =

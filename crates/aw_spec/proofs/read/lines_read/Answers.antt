@@ -33,7 +33,8 @@ loop-line-preserved c =
       dropped =
           ap lines_of rest ∙ feeds_dropped behind ∙ ap (drop k) gone ∙ drop-drop k (l.lines + 1) (lines_of text)
           ∙ ap (λ n. drop n (lines_of text)) (sym count);
-      suffix = behind_both c.past_feeds-rest.result.now l.rest.now text (behind_both c.past_feeds-rest.result.now behind l.rest.now (k, rest) (line_behind l.rest.now (line, behind) c.in-Some.ensures.value)) l.invariant.suffix;
+      suffix = behind_both c.past_feeds-rest.result.now l.rest.now text (behind_both c.past_feeds-rest.result.now behind l.rest.now (k, rest)
+          (line_behind l.rest.now (line, behind) c.in-Some.ensures.value)) l.invariant.suffix;
       within = omega (arith, c.in-Some.ensures.shorter, count, ap length rest, length-drop k behind, prefix_len-le-length (λ b. b == 10) behind, l.invariant.within);
     }
 

@@ -9,5 +9,6 @@ pub returns : goal.returns
 returns c =
     let g = c.args.g.now in
     on_ok_weaker c.push_starts.result
-    (four_added (map (λ name. RoleLine name) g.roles) (map con_line g.cons) (map (sort_line g.roles) g.sorts) (start_lines g.sorts) _ _ _ _ _ c.in_ok-push_roles.ensures c.in_ok-push_cons.ensures c.in_ok-push_sorts.ensures)
+    (four_added (map (λ name. RoleLine name) g.roles) (map con_line g.cons) (map (sort_line g.roles) g.sorts) (start_lines g.sorts) _ _ _ _ _
+    c.in_ok-push_roles.ensures c.in_ok-push_cons.ensures c.in_ok-push_sorts.ensures)
     c.push_starts.ensures

@@ -13,5 +13,6 @@ abbrev pub invariant-loop-child : goal.invariant-loop-child
 invariant-loop-child l = record {
   text : l.text ++ separated_children l.separator (named_children (words_of l.g).cons (words_of l.g).sorts l.vars l.left (map (child_of l.g.sorts) (drop l.child-index l.children)))
       ≡ l.fn.text ++ children_text (named_children (words_of l.g).cons (words_of l.g).sorts l.vars l.results (map (child_of l.g.sorts) l.children));
-  numbers : Each (λ (c : P.Child). Each NumbersFit c.args) (map (child_of l.g.sorts) (drop l.child-index l.children)) → Each (λ (c : P.Child). Each NumbersFit c.args) (map (child_of l.g.sorts) l.children);
+  numbers : Each (λ (c : P.Child). Each NumbersFit c.args) (map (child_of l.g.sorts) (drop l.child-index l.children)) →
+      Each (λ (c : P.Child). Each NumbersFit c.args) (map (child_of l.g.sorts) l.children);
 }

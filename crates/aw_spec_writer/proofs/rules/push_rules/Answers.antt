@@ -11,7 +11,8 @@ loop-rule-preserved c =
     let w = words_of g in
     record {
       text = rules_go_on w.cons w.sorts g.sorts g.rules c.loop-rule.number c.in-Some.rule.now _ _ _ (sym c.in-Some.ensures.value) c.in_ok-push_rule.ensures.text c.loop-rule.invariant.text;
-      numbers = λ rest. c.loop-rule.invariant.numbers (each_rule (λ (e : Entry). SmallNumbers e.rule) g.sorts g.rules c.loop-rule.number c.in-Some.rule.now (sym c.in-Some.ensures.value) c.in_ok-push_rule.ensures.numbers rest);
+      numbers = λ rest. c.loop-rule.invariant.numbers (each_rule (λ (e : Entry). SmallNumbers e.rule) g.sorts g.rules c.loop-rule.number
+          c.in-Some.rule.now (sym c.in-Some.ensures.value) c.in_ok-push_rule.ensures.numbers rest);
     }
 
 pub returns-clause-text : goal.returns-clause-text

@@ -9,7 +9,8 @@ use Rattle.aw_spec_writer.proofs.rules.push_rules.Given as goal
 
 abbrev pub invariant-loop-rule : goal.invariant-loop-rule
 invariant-loop-rule l = record {
-  text : l.text ++ text_of_lines (lines_of_rules (words_of l.g).cons (words_of l.g).sorts l.g.sorts (drop l.number l.g.rules)) ≡ l.fn.text ++ text_of_lines (lines_of_rules (words_of l.g).cons (words_of l.g).sorts l.g.sorts l.g.rules);
+  text : l.text ++ text_of_lines (lines_of_rules (words_of l.g).cons (words_of l.g).sorts l.g.sorts (drop l.number l.g.rules)) ≡ l.fn.text ++
+      text_of_lines (lines_of_rules (words_of l.g).cons (words_of l.g).sorts l.g.sorts l.g.rules);
   numbers : Each (λ (e : Entry). SmallNumbers e.rule) (map (entry l.g.sorts) (drop l.number l.g.rules)) → Each (λ (e : Entry). SmallNumbers e.rule) (map (entry l.g.sorts) l.g.rules);
 }
 

@@ -25,7 +25,8 @@ loop-i-preserved c =
     let here : slice_get items i ≡ Some item = subst (λ xs. slice_get xs i ≡ Some item) c.as_slice-carry-items.ensures read in
     let step = carries_from all items sorts i item sort here (sym c.in-Some.ensures.value) in
     let rest = carry_lines all (drop (suc i) items) (drop (suc i) sorts) in
-    let pushed : c.push_carry.new.text ≡ c.loop-i.text ++ text_of_lines (carry_line all sort.name item) = c.in_ok-push_carry.ensures ∙ ap (λ name. c.loop-i.text ++ text_of_lines (carry_line all name item)) c.as_slice.ensures in
+    let pushed : c.push_carry.new.text ≡ c.loop-i.text ++ text_of_lines (carry_line all sort.name item) = c.in_ok-push_carry.ensures
+    ∙ ap (λ name. c.loop-i.text ++ text_of_lines (carry_line all name item)) c.as_slice.ensures in
     ap (λ n. c.push_carry.new.text ++ text_of_lines (carry_lines all (drop n items) (drop n sorts))) (add-one i)
     ∙ two_added (carry_line all sort.name item) rest c.loop-i.text c.push_carry.new.text (c.push_carry.new.text ++ text_of_lines rest) pushed refl
     ∙ ap (λ ls. c.loop-i.text ++ text_of_lines ls) (sym step) ∙ c.loop-i.invariant

@@ -14,5 +14,6 @@ returns c =
     on_ok_weaker c.push_bytes-5.result
     (λ last.
     subst (λ (o : Option Carry). c.push_bytes-5.new.self ≡ c.args.text.now ++ text_of_lines (carry_line all sort o)) (sym c.in-Some.is)
-    (carry_added all sort c.in-Some.carry c.args.text.now _ _ _ _ _ _ _ c.in_ok-push_bytes.ensures.ok c.in_ok-push_bytes-2.ensures.ok c.in_ok-push_bytes-3.ensures.ok c.in_ok-push_type_names.ensures c.in_ok-push_bytes-4.ensures.ok c.in_ok-push_type_names-2.ensures last))
+    (carry_added all sort c.in-Some.carry c.args.text.now _ _ _ _ _ _ _ c.in_ok-push_bytes.ensures.ok c.in_ok-push_bytes-2.ensures.ok
+    c.in_ok-push_bytes-3.ensures.ok c.in_ok-push_type_names.ensures c.in_ok-push_bytes-4.ensures.ok c.in_ok-push_type_names-2.ensures last))
     c.push_bytes-5.ensures.ok

@@ -7,4 +7,5 @@ use Rattle.aw_spec_writer.proofs.types.push_depends.Given as goal
 
 abbrev pub invariant-loop-d : goal.invariant-loop-d
 invariant-loop-d l =
-    l.text ++ text_of_lines (map (depends_line (sort_names (declarations_of l.g))) (drop l.d-index l.d-items)) ≡ l.fn.text ++ text_of_lines (map (depends_line (sort_names (declarations_of l.g))) l.declared)
+    l.text ++ text_of_lines (map (depends_line (sort_names (declarations_of l.g))) (drop l.d-index l.d-items)) ≡ l.fn.text ++ text_of_lines
+    (map (depends_line (sort_names (declarations_of l.g))) l.declared)

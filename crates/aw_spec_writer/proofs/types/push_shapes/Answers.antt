@@ -25,7 +25,8 @@ loop-i-preserved c =
     let here : slice_get items i ≡ Some item = subst (λ xs. slice_get xs i ≡ Some item) c.as_slice-shape-items.ensures read in
     let step = shapes_from all items cons i item con here (sym c.in-Some.ensures.value) in
     let rest = shape_lines all (drop (suc i) items) (drop (suc i) cons) in
-    let pushed : c.push_shape.new.text ≡ c.loop-i.text ++ text_of_lines (shape_line all con.name item) = c.in_ok-push_shape.ensures ∙ ap (λ name. c.loop-i.text ++ text_of_lines (shape_line all name item)) c.as_slice.ensures in
+    let pushed : c.push_shape.new.text ≡ c.loop-i.text ++ text_of_lines (shape_line all con.name item) = c.in_ok-push_shape.ensures
+    ∙ ap (λ name. c.loop-i.text ++ text_of_lines (shape_line all name item)) c.as_slice.ensures in
     ap (λ n. c.push_shape.new.text ++ text_of_lines (shape_lines all (drop n items) (drop n cons))) (add-one i)
     ∙ two_added (shape_line all con.name item) rest c.loop-i.text c.push_shape.new.text (c.push_shape.new.text ++ text_of_lines rest) pushed refl
     ∙ ap (λ ls. c.loop-i.text ++ text_of_lines ls) (sym step) ∙ c.loop-i.invariant

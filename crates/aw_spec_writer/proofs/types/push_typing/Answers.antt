@@ -12,6 +12,7 @@ returns c =
     let s = c.args.s.now in
     let all = type_names s.types in
     on_ok_weaker c.push_depends.result
-    (four_added (type_lines s.types) (shape_lines all s.types.shapes s.grammar.cons) (carry_lines all s.types.carries s.grammar.sorts) (map (depends_line (sort_names (declarations_of s.grammar))) s.depends) _ _ _ _ _
+    (four_added (type_lines s.types) (shape_lines all s.types.shapes s.grammar.cons) (carry_lines all s.types.carries s.grammar.sorts)
+    (map (depends_line (sort_names (declarations_of s.grammar))) s.depends) _ _ _ _ _
     c.in_ok-push_types.ensures c.in_ok-push_shapes.ensures c.in_ok-push_carries.ensures)
     c.push_depends.ensures

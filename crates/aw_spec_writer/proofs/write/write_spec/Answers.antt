@@ -16,6 +16,7 @@ returns-clause-exact c =
 pub returns-clause-again : goal.returns-clause-again
 returns-clause-again c = λ faces types.
     let s = c.args.s.now in
-    ap (λ text. specification (lines_of text)) (whole_text (declaration_lines (declarations_of s.grammar)) (face_lines (spec_seen s)) (typing_lines (spec_seen s)) (free_lines (spec_seen s)) (rule_lines (declarations_of s.grammar)) _ _ _ _ _ _
+    ap (λ text. specification (lines_of text)) (whole_text (declaration_lines (declarations_of s.grammar)) (face_lines (spec_seen s))
+    (typing_lines (spec_seen s)) (free_lines (spec_seen s)) (rule_lines (declarations_of s.grammar)) _ _ _ _ _ _
     c.new-text.ensures c.in_ok-push_declarations.ensures c.in_ok-push_faces.ensures c.in_ok-push_typing.ensures c.in_ok-push_free.ensures c.in_ok-push_rules.ensures.text)
     ∙ again s c.in_ok-push_rules.ensures.numbers faces types

@@ -14,10 +14,21 @@ returns-in_err-name_equation-clause-sound c =
     let s = c.requires.sound in
     let ms = c.name_equation.new.names.items in
     let g = c.name_equation.ensures.grows in
-    record { once = c.name_equation.ensures.once; named = has_names-grown _ ms _ g s.named; few = s.few; ready_named = has_names-grown _ ms _ g (kept_named _ _ _ _ c.keep_ready.ensures s.ready_named) }
+    record {
+      once = c.name_equation.ensures.once;
+      named = has_names-grown _ ms _ g s.named;
+      few = s.few;
+      ready_named =
+          has_names-grown _ ms _ g (kept_named _ _ _ _ c.keep_ready.ensures s.ready_named);
+    }
 
 pub returns-in_err-name_equation-clause-room : goal.returns-in_err-name_equation-clause-room
-returns-in_err-name_equation-clause-room c = omega (arith, c.requires.room, kept_lacking (map equation_of c.args.equations.now.items) c.args.ready.now.items c.keep_ready.new.ready.items c.args.e.left c.keep_ready.ensures)
+returns-in_err-name_equation-clause-room c = omega (
+  arith,
+  c.requires.room,
+  kept_lacking (map equation_of c.args.equations.now.items)
+      c.args.ready.now.items c.keep_ready.new.ready.items c.args.e.left c.keep_ready.ensures,
+)
 
 pub returns-in_err-name_equation-clause-ready : goal.returns-in_err-name_equation-clause-ready
 returns-in_err-name_equation-clause-ready c = λ m. kept_all _ _ c.args.e c.keep_ready.ensures m
@@ -41,14 +52,28 @@ returns-in_err-push-clause-sound c =
 pub returns-in_err-push-clause-room : goal.returns-in_err-push-clause-room
 returns-in_err-push-clause-room c =
     let same = ap (λ es. lacking (map equation_of es) (map equation_of c.keep_ready.new.ready.items)) c.in_err-push.ensures.items in
-    omega (arith, c.requires.room, same, c.in_err-push.ensures.len, c.push.ensures.capacity, kept_lacking (map equation_of c.args.equations.now.items) c.args.ready.now.items c.keep_ready.new.ready.items c.args.e.left c.keep_ready.ensures)
+    omega (
+      arith,
+      c.requires.room,
+      same,
+      c.in_err-push.ensures.len,
+      c.push.ensures.capacity,
+      kept_lacking (map equation_of c.args.equations.now.items)
+          c.args.ready.now.items c.keep_ready.new.ready.items c.args.e.left c.keep_ready.ensures,
+    )
 
 pub returns-in_err-push-clause-ready : goal.returns-in_err-push-clause-ready
 returns-in_err-push-clause-ready c = λ m. kept_all _ _ c.args.e c.keep_ready.ensures m
 
 pub returns-in_err-push-clause-sure : goal.returns-in_err-push-clause-sure
 returns-in_err-push-clause-sure c = λ m.
-    absurd (not_ok _ _ c.in_err-push.was (c.push.ensures.succeeds (omega (arith, c.requires.room, member_lacks (map equation_of c.args.equations.now.items) (map equation_of c.args.ready.now.items) (equation_of c.args.e) m c.requires.lacks))))
+    absurd (not_ok _ _ c.in_err-push.was
+    (c.push.ensures.succeeds (omega (
+      arith,
+      c.requires.room,
+      member_lacks (map equation_of c.args.equations.now.items)
+          (map equation_of c.args.ready.now.items) (equation_of c.args.e) m c.requires.lacks,
+    ))))
 
 pub returns-clause-sound : goal.returns-clause-sound
 returns-clause-sound c =

@@ -14,4 +14,5 @@ returns-in_ok-name_one-in-Same-clause-ok c =
 pub returns-in_ok-name_one-in-Same-clause-only : goal.returns-in_ok-name_one-in-Same-clause-only
 returns-in_ok-name_one-in-Same-clause-only c =
     let r = c.in-Same.r in
-    only_named c.name_one.result c.args.names.now.items c.name_one.new.names.items (mentions (body_of c.args.body.now)) r (ap (λ b. is_named (mentions (body_of b)) r) c.in-Same.is ∙ named_first r []) c.name_one.ensures.ok c.name_one.ensures.err
+    only_named c.name_one.result c.args.names.now.items c.name_one.new.names.items (mentions (body_of c.args.body.now)) r
+    (ap (λ b. is_named (mentions (body_of b)) r) c.in-Same.is ∙ named_first r []) c.name_one.ensures.ok c.name_one.ensures.err

@@ -20,4 +20,5 @@ returns-clause-only c =
     let e = equation_of c.args.e.now in
     let old = c.args.names.now.items in
     let mid = c.name_one.new.names.items in
-    only_both old mid c.name_body.new.names.items e (only_named c.name_one.result old mid (refs_in e) e.left (named_first e.left (mentions e.body)) c.name_one.ensures.ok c.name_one.ensures.err) c.name_body.ensures.only
+    only_both old mid c.name_body.new.names.items e (only_named c.name_one.result old mid (refs_in e) e.left (named_first e.left (mentions e.body))
+    c.name_one.ensures.ok c.name_one.ensures.err) c.name_body.ensures.only

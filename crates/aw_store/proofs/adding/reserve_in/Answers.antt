@@ -20,7 +20,12 @@ returns-in_err-reserve-clause-sound c =
     let ms = c.name_equations.new.names.items in
     let g = c.name_equations.ensures.grows in
     let same = ap (map equation_of) c.reserve.ensures.items in
-    record { once = c.name_equations.ensures.once; named = ap (has_names ms) same ∙ has_names-grown _ ms _ g s.named; few = ap all_few same ∙ s.few; ready_named = has_names-grown _ ms _ g s.ready_named }
+    record {
+      once = c.name_equations.ensures.once;
+      named = ap (has_names ms) same ∙ has_names-grown _ ms _ g s.named;
+      few = ap all_few same ∙ s.few;
+      ready_named = has_names-grown _ ms _ g s.ready_named;
+    }
 
 pub returns-clause-sound : goal.returns-clause-sound
 returns-clause-sound c =

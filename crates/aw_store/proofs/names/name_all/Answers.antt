@@ -7,7 +7,8 @@ loop-r-preserved c =
     let new = c.name_one.new.names.items in (
       c.name_one.ensures.once,
       grows_more _ _ _ inv.1 c.name_one.ensures.grows,
-      only_at c.name_one.result c.args.names.now.items c.loop-r.names.items c.name_one.new.names.items c.args.refs.now c.loop-r.r-index c.r-item.result c.loop-r-test.true c.r-item.is inv.2 c.name_one.ensures.ok c.name_one.ensures.err,
+      only_at c.name_one.result c.args.names.now.items c.loop-r.names.items c.name_one.new.names.items c.args.refs.now c.loop-r.r-index
+          c.r-item.result c.loop-r-test.true c.r-item.is inv.2 c.name_one.ensures.ok c.name_one.ensures.err,
       all_named-take new c.args.refs.now c.loop-r.r-index c.r-item.result c.loop-r-test.true c.r-item.is
           (all_named-grown _ new _ c.name_one.ensures.grows inv.3)
           (is_named-at new _ _ c.in_ok-name_one.ensures.slot),
@@ -21,4 +22,5 @@ returns-in_err-name_one-clause-named c = λ w.
 
 pub returns-in_err-name_one-clause-only : goal.returns-in_err-name_one-clause-only
 returns-in_err-name_one-clause-only c =
-    only_at c.name_one.result c.args.names.now.items c.loop-r.names.items c.name_one.new.names.items c.args.refs.now c.loop-r.r-index c.r-item.result c.loop-r-test.true c.r-item.is c.loop-r.invariant.2 c.name_one.ensures.ok c.name_one.ensures.err
+    only_at c.name_one.result c.args.names.now.items c.loop-r.names.items c.name_one.new.names.items c.args.refs.now c.loop-r.r-index c.r-item.result
+    c.loop-r-test.true c.r-item.is c.loop-r.invariant.2 c.name_one.ensures.ok c.name_one.ensures.err

@@ -35,5 +35,6 @@ returns-clause-does g c =
     let sort = ap (λ p. sort_of p c.args.node) (sym same) ∙ sym c.sort_of.ensures ∙ c.in-Some.is in
     let rules = c.as_slice.ensures.value ∙ c.in_ok-rules.ensures ∙ ap (λ p. rules_of c.in-Some.sort 0 p.rules) same-2 in
     on_ok_weaker c.among_rules.result
-    (λ does. same_thing g.W.Workspace c.args.world.now c.among_rules.new.world c.args.tally.now c.among_rules.new.tally _ _ (of_sort (plain_of c.args.world.now) c.args.node c.in-Some.sort c.as_slice.result.now sort rules) does)
+    (λ does. same_thing g.W.Workspace c.args.world.now c.among_rules.new.world c.args.tally.now c.among_rules.new.tally _ _
+    (of_sort (plain_of c.args.world.now) c.args.node c.in-Some.sort c.as_slice.result.now sort rules) does)
     c.among_rules.ensures.does

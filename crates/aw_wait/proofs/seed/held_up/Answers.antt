@@ -18,11 +18,13 @@ loop-rule-preserved c =
     let r = c.kept_rule.result.now in
     record {
       made = c.add_rule.ensures.made h c.loop-rule.invariant.made;
-      added = rules_more (grammar_of h) c.loop-rule.rule (rule_of h.sorts r) c.in_ok-seed.seed c.loop-rule.seed c.add_rule.new.seed (got_map (rule_of h.sorts) h.rules c.loop-rule.rule r c.kept_rule.ensures.value) c.loop-rule.invariant.added c.add_rule.ensures;
+      added = rules_more (grammar_of h) c.loop-rule.rule (rule_of h.sorts r) c.in_ok-seed.seed c.loop-rule.seed c.add_rule.new.seed
+          (got_map (rule_of h.sorts) h.rules c.loop-rule.rule r c.kept_rule.ensures.value) c.loop-rule.invariant.added c.add_rule.ensures;
     }
 
 pub returns-clause-exact : goal.returns-clause-exact
 returns-clause-exact c =
     let h = c.args.g.now in
     let all : length h.rules ≤ c.loop-rule.rule = omega arith in
-    rules_all (grammar_of h) c.loop-rule.rule c.in_ok-seed.seed c.loop-rule.seed c.in_ok-seed.ensures.empty (subst (λ n. n ≤ c.loop-rule.rule) (sym (length-map h.rules (rule_of h.sorts))) all) c.loop-rule.invariant.added
+    rules_all (grammar_of h) c.loop-rule.rule c.in_ok-seed.seed c.loop-rule.seed c.in_ok-seed.ensures.empty
+    (subst (λ n. n ≤ c.loop-rule.rule) (sym (length-map h.rules (rule_of h.sorts))) all) c.loop-rule.invariant.added

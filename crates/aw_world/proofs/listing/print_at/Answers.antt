@@ -10,7 +10,13 @@ use Rattle.aw_world.proofs.listing.print_at.Goals as goal
 pub index_mut-own-requires : goal.index_mut-own-requires
 index_mut-own-requires g c =
     let within = stood_within g.W.Workspace c.args.sites.now c.args.spot.now c.requires.there in
-    omega (arith, within, pairs_length (λ x p. g.W.Workspace.keeps x c.args.accepted.now.grammar c.args.report.now p) c.args.sites.now c.args.printers.now.items c.requires.ready, c.args.printers.now.ok.0)
+    omega (
+      arith,
+      within,
+      pairs_length (λ x p. g.W.Workspace.keeps x c.args.accepted.now.grammar c.args.report.now p) c.args.sites.now
+          c.args.printers.now.items c.requires.ready,
+      c.args.printers.now.ok.0,
+    )
 
 pub print_row-requires-clause-grammar : goal.print_row-requires-clause-grammar
 print_row-requires-clause-grammar g c =
@@ -22,7 +28,8 @@ pub print_row-requires-clause-place : goal.print_row-requires-clause-place
 print_row-requires-clause-place g c =
     let at = c.args.spot.now.site in
     let within = stood_within g.W.Workspace c.args.sites.now c.args.spot.now c.requires.there in
-    place_within g.W.Workspace c.args.sites.now c.args.spot.now c.index-sites-spot.result (slice_get_read c.args.sites.now (length c.args.sites.now) at c.index-sites-spot.result refl within c.index-sites-spot.is) c.requires.there
+    place_within g.W.Workspace c.args.sites.now c.args.spot.now c.index-sites-spot.result
+    (slice_get_read c.args.sites.now (length c.args.sites.now) at c.index-sites-spot.result refl within c.index-sites-spot.is) c.requires.there
 
 pub print_row-requires-clause-ready : goal.print_row-requires-clause-ready
 print_row-requires-clause-ready g c =
@@ -50,4 +57,5 @@ pub returns-clause-prints : goal.returns-clause-prints
 returns-clause-prints g c = λ ss shown.
     let at = c.args.spot.now.site in
     c.print_row.ensures.prints (get (empty_site false at) ss at)
-    (pairs_at (λ x s. g.W.Workspace.shows x s) (empty_site false at) c.args.sites.now ss at c.index-sites-spot.result shown (stood_within g.W.Workspace c.args.sites.now c.args.spot.now c.requires.there) c.index-sites-spot.is)
+    (pairs_at (λ x s. g.W.Workspace.shows x s) (empty_site false at) c.args.sites.now ss at c.index-sites-spot.result shown
+    (stood_within g.W.Workspace c.args.sites.now c.args.spot.now c.requires.there) c.index-sites-spot.is)

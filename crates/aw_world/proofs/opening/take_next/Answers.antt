@@ -15,4 +15,5 @@ returns-else-is_first_next-clause-some c =
     let p = c.args.passed.now in
     let ordered = ordered_left c.args.mine.now p.mine c.requires in
     let second = sym c.is_first_next.ensures ∙ c.if-is_first_next.false in
-    IfSome_then c.pass-else-is_first_next.result c.pass-else-is_first_next.ensures.some (λ node e. second_taken (drop p.mine c.args.mine.now) (drop p.others c.args.others.now) node.now _ ordered second e)
+    IfSome_then c.pass-else-is_first_next.result c.pass-else-is_first_next.ensures.some (λ node e. second_taken (drop p.mine c.args.mine.now)
+    (drop p.others c.args.others.now) node.now _ ordered second e)

@@ -12,7 +12,8 @@ pub loop-number-smaller : goal.loop-number-smaller
 loop-number-smaller g c =
     let w = c.loop-number.world in
     let x = c.deliver_one.new.world in
-    subst (λ (a : Accepted). bound_of (grammar_of a.grammar) (map choice_of x.taken.items) - count_set x.marks.delivered.items < bound_of (grammar_of w.accepted.now.grammar) (map choice_of w.taken.items) - count_set w.marks.delivered.items)
+    subst (λ (a : Accepted). bound_of (grammar_of a.grammar) (map choice_of x.taken.items) - count_set x.marks.delivered.items < bound_of
+    (grammar_of w.accepted.now.grammar) (map choice_of w.taken.items) - count_set w.marks.delivered.items)
     (sym c.deliver_one.ensures.accepted)
     (fewer_left g.W.Workspace w x c.in-Some.number (sym c.quiet.ensures ∙ c.in-Some.is) c.in_ok-deliver_one.ensures.stepped)
 
@@ -27,7 +28,8 @@ loop-number-preserved g c =
       accepted = c.deliver_one.ensures.accepted ∙ i.accepted;
       loads = c.deliver_one.ensures.loads ∙ i.loads;
       counts = omega (arith, i.counts, o.0, o.1);
-      settled = settled_on g.W.Workspace w x c.in-Some.number first c.in_ok-deliver_one.ensures.stepped (grammar_of c.args.world.now.accepted.now.grammar) (ap (λ (a : Accepted). grammar_of a.grammar) i.accepted)
+      settled = settled_on g.W.Workspace w x c.in-Some.number first c.in_ok-deliver_one.ensures.stepped
+          (grammar_of c.args.world.now.accepted.now.grammar) (ap (λ (a : Accepted). grammar_of a.grammar) i.accepted)
           (λ v. Shows g.W.Workspace c.args.world.now v) (count_set c.args.world.now.marks.delivered.items) i.counts i.settled;
     }
 

@@ -13,7 +13,8 @@ pub returns-in_err-answer-in-Choose-clause-err : goal.returns-in_err-answer-in-C
 returns-in_err-answer-in-Choose-clause-err g c =
     let d = c.args.accepted.now.grammar in
     let flags = c.args.marks.now.delivered.items in
-    let kept : (v : V.World) → Seen g.W.Workspace d c.args.sites.now.items c.args.messages.now flags c.args.taken.now.items v → Seen g.W.Workspace d c.choose.new.sites.items c.choose.new.messages flags c.choose.new.taken.items v =
+    let kept : (v : V.World) → Seen g.W.Workspace d c.args.sites.now.items c.args.messages.now flags c.args.taken.now.items v →
+    Seen g.W.Workspace d c.choose.new.sites.items c.choose.new.messages flags c.choose.new.taken.items v =
     λ v S. c.in_err-answer-in-Choose.ensures.err flags v S in
     on_err _ kept
 
@@ -21,7 +22,8 @@ pub returns-in_ok-answer-in-Choose-clause-steps : goal.returns-in_ok-answer-in-C
 returns-in_ok-answer-in-Choose-clause-steps g c = λ v S.
     let d = c.args.accepted.now.grammar in
     let flags = c.args.marks.now.delivered.items in
-    subst (λ e. Steps g.W.Workspace d c.choose.new.sites.items c.choose.new.messages flags c.choose.new.taken.items (V.step (grammar_of d) v (move_of e)) (replies.Choice c.in_ok-answer-in-Choose.answer)) (sym c.in-Choose.is)
+    subst (λ e. Steps g.W.Workspace d c.choose.new.sites.items c.choose.new.messages flags c.choose.new.taken.items
+    (V.step (grammar_of d) v (move_of e)) (replies.Choice c.in_ok-answer-in-Choose.answer)) (sym c.in-Choose.is)
     (c.in_ok-answer-in-Choose.ensures.steps flags c.requires.marked v S)
 
 pub returns-in-Deliver-clause-steps : goal.returns-in-Deliver-clause-steps

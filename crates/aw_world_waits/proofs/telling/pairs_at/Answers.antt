@@ -18,8 +18,10 @@ pub loop-spot-preserved : goal.loop-spot-preserved
 loop-spot-preserved g c = λ v S.
     let i = c.loop-spot.spot-index in
     let is = slice_get-get_or c.args.spots.now i (record { site = 0; place = 0 }) c.loop-spot-test.true in
-    pairs_more g.W.Workspace c.args.world.now g.met.W.Workspace.holds c.args.spots.now c.requires.spots c.args.all.now c.requires.all i _ is c.at-row.result.now c.at.result.now c.at-row.ensures c.at.ensures
+    pairs_more g.W.Workspace c.args.world.now g.met.W.Workspace.holds c.args.spots.now c.requires.spots c.args.all.now c.requires.all i _ is
+    c.at-row.result.now c.at.result.now c.at-row.ensures c.at.ensures
     c.loop-spot.pairs c.push_pairs.new.pairs c.in_ok-push_pairs.ensures v S (c.loop-spot.invariant v S)
 
 pub returns : goal.returns
-returns g c = λ v S. all_passed g.W.Workspace c.args.world.now g.met.W.Workspace.holds c.args.spots.now c.requires.spots c.loop-spot.spot-index c.loop-spot-test.false c.loop-spot.pairs v S (c.loop-spot.invariant v S)
+returns g c = λ v S. all_passed g.W.Workspace c.args.world.now g.met.W.Workspace.holds c.args.spots.now c.requires.spots c.loop-spot.spot-index
+    c.loop-spot-test.false c.loop-spot.pairs v S (c.loop-spot.invariant v S)

@@ -17,7 +17,8 @@ pub returns-clause-stands : goal.returns-clause-stands
 returns-clause-stands c w g h =
     let old = c.args.self.now in
     let text = c.args.text.now in
-    let kept = last_kept w g old.text.items text old.start old.case old.steps.items old.fronts.items c.args.common c.args.kept h c.requires.few c.requires.last (sym c.requires.same) c.requires.within in
+    let kept = last_kept w g old.text.items text old.start old.case old.steps.items old.fronts.items c.args.common c.args.kept h c.requires.few
+    c.requires.last (sym c.requires.same) c.requires.within in
     let same : c.extend_from_slice.new.self.items ≡ text =
     c.in_ok-extend_from_slice.ensures.items ∙ ap (λ t. c.truncate-3.new.self.items ++ t) (take_rest text c.args.common)
     ∙ ap (λ t. t ++ drop c.args.common text) (c.truncate-3.ensures.items ∙ c.requires.same) ∙ take-append-drop c.args.common text in

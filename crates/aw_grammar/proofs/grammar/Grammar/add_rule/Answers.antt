@@ -27,8 +27,10 @@ invariant_of-self c =
       rule_names =
           c.in_ok-rules.ensures.index ∙ ap (λ ns. ns ++ r.name ∷ []) g.rule_names
           ∙ sym (ap (map (λ (u : Rule). u.name)) added ∙ map-append (λ (u : Rule). u.name) g.rules (r ∷ []));
-      variables_fit = more_variables g.roles g.cons g.sorts g.rules (rule_of_raw c.args.rule) r c.in_ok-rules.rules added c.in-Ok.ensures.1 c.in-Ok.ensures.0 c.requires.contents c.requires.variables g.variables_fit;
-      well_formed = good_rule g.roles g.cons g.sorts g.rules (rule_of_raw c.args.rule) r c.in_ok-rules.rules added c.in-Ok.ensures.1 c.requires.named c.requires.contents c.in-Ok.ensures.0 g.well_formed;
+      variables_fit = more_variables g.roles g.cons g.sorts g.rules (rule_of_raw c.args.rule) r c.in_ok-rules.rules added c.in-Ok.ensures.1
+          c.in-Ok.ensures.0 c.requires.contents c.requires.variables g.variables_fit;
+      well_formed = good_rule g.roles g.cons g.sorts g.rules (rule_of_raw c.args.rule) r c.in_ok-rules.rules added c.in-Ok.ensures.1 c.requires.named
+          c.requires.contents c.in-Ok.ensures.0 g.well_formed;
     }
 
 pub returns-in_err-rules : goal.returns-in_err-rules

@@ -31,4 +31,5 @@ returns-then-digest c =
 
 pub returns-else-digest : goal.returns-else-digest
 returns-else-digest c =
-    numbers_differ digest_of c.args.self.now c.args.other.now c.digest.result c.digest-else-is_short.result (pointwise step_eq c.args.self.now c.args.other.now) c.digest.ensures c.digest-else-is_short.ensures c.if-digest.false refl
+    numbers_differ digest_of c.args.self.now c.args.other.now c.digest.result c.digest-else-is_short.result
+    (pointwise step_eq c.args.self.now c.args.other.now) c.digest.ensures c.digest-else-is_short.ensures c.if-digest.false refl

@@ -10,7 +10,8 @@ returns-then-eq-clause-place c =
     let name = c.args.name.now in
     let there = c.in-Some.ensures.lookup in
     let same = same_is c.in-Some.known.now.items name (sym (c.eq.ensures ∙ (λ i. is_same (c.as_slice-in-Some.ensures.value i) name)) ∙ c.if-eq.true) in
-    place_at (λ name. name.items) name c.self.inside.names.keys c.as_slice.result.now c.from-guess.result c.in-Some.known.now c.as_slice.ensures.keys c.as_slice.ensures.unique there.3.0 (sym there.1) same
+    place_at (λ name. name.items) name c.self.inside.names.keys c.as_slice.result.now c.from-guess.result c.in-Some.known.now c.as_slice.ensures.keys
+    c.as_slice.ensures.unique there.3.0 (sym there.1) same
     ∙ ap (place_of name) c.self.view_is
 
 pub returns-clause-place : goal.returns-clause-place

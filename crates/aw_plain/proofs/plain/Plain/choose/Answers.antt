@@ -15,10 +15,12 @@ use Rattle.aw_plain.proofs.plain.Plain.choose.Goals as goal
 
 -- the grammar that is passed is that of the configuration
 pub returns-clause-answer : goal.returns-clause-answer
-returns-clause-answer c = answer_on c.choose.result c.grammar.result.now _ c.args.self.now.rows.items (choice_of c.args.choice.now) (c.grammar.ensures.value ∙ c.requires.grammar) c.choose.ensures.answer
+returns-clause-answer c = answer_on c.choose.result c.grammar.result.now _ c.args.self.now.rows.items (choice_of c.args.choice.now)
+    (c.grammar.ensures.value ∙ c.requires.grammar) c.choose.ensures.answer
 
 pub returns-clause-rows : goal.returns-clause-rows
-returns-clause-rows c = rows_on c.choose.result c.grammar.result.now _ c.args.self.now.rows.items c.choose.new.rows.items (choice_of c.args.choice.now) (c.grammar.ensures.value ∙ c.requires.grammar) c.choose.ensures.rows
+returns-clause-rows c = rows_on c.choose.result c.grammar.result.now _ c.args.self.now.rows.items c.choose.new.rows.items
+    (choice_of c.args.choice.now) (c.grammar.ensures.value ∙ c.requires.grammar) c.choose.ensures.rows
 
 pub returns-clause-waits : goal.returns-clause-waits
 returns-clause-waits c =
@@ -36,7 +38,8 @@ invariant_of-self c =
     let g = grammar_of declared in
     let x = choice_of c.args.choice.now in
     let stays = rows_on c.choose.result c.grammar.result.now declared old.rows.items c.choose.new.rows.items x (c.grammar.ensures.value ∙ c.requires.grammar) c.choose.ensures.rows in
-    let reached = kept (λ d. ∥ IsReached g d ∥₁) c.choose.result old.rows.items c.choose.new.rows.items _ stays c.choose.ensures.err old.reached (∥∥₁_map old.reached (reached_after g (config_of old.rows.items) x)) in
+    let reached = kept (λ d. ∥ IsReached g d ∥₁) c.choose.result old.rows.items c.choose.new.rows.items _ stays c.choose.ensures.err old.reached
+    (∥∥₁_map old.reached (reached_after g (config_of old.rows.items) x)) in
     record {
       accepted = old.accepted;
       filled = kept (λ d. ∥ AreFilled g d ∥₁) c.choose.result old.rows.items c.choose.new.rows.items _ stays c.choose.ensures.err old.filled
@@ -46,5 +49,6 @@ invariant_of-self c =
       reached = reached;
       tree = tree_reached (words_of declared) g (config_of c.choose.new.rows.items) declared.well_formed old.accepted reached;
       acyclic = acyclic_reached (words_of declared) g (config_of c.choose.new.rows.items) declared.well_formed old.accepted reached;
-      sorts = kept (λ d. HaveTheirSorts g d) c.choose.result old.rows.items c.choose.new.rows.items _ stays c.choose.ensures.err old.sorts (sorts_after g (config_of old.rows.items) x old.sorts c.requires.fits);
+      sorts = kept (λ d. HaveTheirSorts g d) c.choose.result old.rows.items c.choose.new.rows.items _ stays c.choose.ensures.err old.sorts
+          (sorts_after g (config_of old.rows.items) x old.sorts c.requires.fits);
     }

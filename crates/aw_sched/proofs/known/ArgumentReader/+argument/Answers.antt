@@ -22,7 +22,8 @@ argument-returns-in_ok-arguments-in-Parts-clause-reads t c =
     let found = c.arguments.new.found in
     let front = c.in_ok-argument.ensures in
     let opened = subst (λ f. IsFront self.grammar.now.cons self.rest.now f inside.rest.now) c.in-Parts.is front.front in
-    with_parts_read self.grammar.now.cons c.args.depth self.room (c.args.depth - 1) inside.room after.room c.in-Parts.con c.in-Parts.arity found self.rest.now inside.rest.now after.rest.now c.with_parts.result
+    with_parts_read self.grammar.now.cons c.args.depth self.room (c.args.depth - 1) inside.room after.room c.in-Parts.con c.in-Parts.arity found
+    self.rest.now inside.rest.now after.rest.now c.with_parts.result
     (omega (arith, front.depth)) front.room opened.0
     (subst (λ (g : Grammar). TakesArguments g.cons 41 (c.args.depth - 1) inside.room inside.rest.now found after.room after.rest.now) front.grammar c.in_ok-arguments-in-Parts.ensures.reads)
     c.with_parts.ensures
@@ -46,7 +47,8 @@ arguments-reading-preserved t c =
     let found = c.in_ok-is_closed in
     record {
       grammar = c.argument.ensures.grammar ∙ c.reading.invariant.grammar;
-      read = one_more self.grammar.now.cons c.args.depth self.room self.rest.now c.reading.found c.push.new.self x now.room after.room now.rest.now after.rest.now found.rest.now c.reading.invariant.read
+      read = one_more self.grammar.now.cons c.args.depth self.room self.rest.now c.reading.found c.push.new.self x now.room after.room now.rest.now
+          after.rest.now found.rest.now c.reading.invariant.read
           (subst (λ (g : Grammar). TakesArgument g.cons c.args.depth now.room now.rest.now x after.room after.rest.now) c.reading.invariant.grammar c.in_ok-argument.ensures.reads)
           (found.ensures.goes_on c.if-is_closed.false) c.in_ok-push.ensures.ok;
     }
@@ -58,6 +60,7 @@ arguments-returns-then-is_closed-clause-reads t c =
     let after = c.argument.new.self in
     let x = c.in_ok-argument.argument in
     let found = c.in_ok-is_closed in
-    at_close self.grammar.now.cons c.args.close c.args.depth self.room self.rest.now c.reading.found c.push.new.self x now.room after.room now.rest.now after.rest.now found.rest.now c.reading.invariant.read
+    at_close self.grammar.now.cons c.args.close c.args.depth self.room self.rest.now c.reading.found c.push.new.self x now.room after.room
+    now.rest.now after.rest.now found.rest.now c.reading.invariant.read
     (subst (λ (g : Grammar). TakesArgument g.cons c.args.depth now.room now.rest.now x after.room after.rest.now) c.reading.invariant.grammar c.in_ok-argument.ensures.reads)
     (found.ensures.closed c.if-is_closed.true) c.in_ok-push.ensures.ok

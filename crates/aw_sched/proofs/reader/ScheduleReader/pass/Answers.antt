@@ -27,7 +27,8 @@ loop-event-preserved c =
       typed = n.typed ∙ i.typed;
       read = (
         i.read.0 ++ c.in-Some.event ∷ [],
-        next_read c.args.self.now c.loop-event.self i.read.0 (left c.next.new.self) i.grammar i.typed i.read.1 c.next.new.self refl c.in_ok-event.field-0 c.in-Some.event c.in-Some.is n.next n.fits n.types,
+        next_read c.args.self.now c.loop-event.self i.read.0 (left c.next.new.self) i.grammar i.typed i.read.1 c.next.new.self refl
+            c.in_ok-event.field-0 c.in-Some.event c.in-Some.is n.next n.fits n.types,
       );
     }
 

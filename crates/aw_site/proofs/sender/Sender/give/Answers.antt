@@ -18,7 +18,8 @@ returns-in_ok-push_mentions-in-Some-clause-valid g c = λ ok.
 
 pub returns-in_ok-push_mentions-in-Some-clause-gives : goal.returns-in_ok-push_mentions-in-Some-clause-gives
 returns-in_ok-push_mentions-in-Some-clause-gives g c = λ s sends later.
-    gave _ later c.args.r c.in_ok-body.field-0 c.in-Some.body (reverse c.args.stack.now.items) _ (c.in_ok-body.ensures.gives s sends (reverse c.args.stack.now.items) later) c.in-Some.is c.in_ok-push_mentions-in-Some.ensures
+    gave _ later c.args.r c.in_ok-body.field-0 c.in-Some.body (reverse c.args.stack.now.items) _
+    (c.in_ok-body.ensures.gives s sends (reverse c.args.stack.now.items) later) c.in-Some.is c.in_ok-push_mentions-in-Some.ensures
 
 pub returns-in-None-clause-gives : goal.returns-in-None-clause-gives
 returns-in-None-clause-gives g c = λ s sends later.

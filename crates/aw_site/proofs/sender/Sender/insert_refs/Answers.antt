@@ -7,7 +7,8 @@ use Rattle.aw_site.proofs.sender.Sender.insert_refs.Goals as goal
 
 pub insert_wanted-requires-clause-valid : goal.insert_wanted-requires-clause-valid
 insert_wanted-requires-clause-valid g c =
-    ref_at (grammar_of c.args.self.now.grammar.now) c.args.refs.now (length c.args.refs.now - 1 - c.loop-i.i) c.index-refs-refs.result (omega (arith, c.loop-i-test.true)) c.index-refs-refs.is c.requires.valid
+    ref_at (grammar_of c.args.self.now.grammar.now) c.args.refs.now (length c.args.refs.now - 1 - c.loop-i.i) c.index-refs-refs.result
+    (omega (arith, c.loop-i-test.true)) c.index-refs-refs.is c.requires.valid
 
 pub loop-i-preserved : goal.loop-i-preserved
 loop-i-preserved g c =

@@ -17,7 +17,8 @@ returns-in-Some-2-clause-valid g c =
 pub returns-in-Some-2-clause-gives : goal.returns-in-Some-2-clause-gives
 returns-in-Some-2-clause-gives g c = λ s sends.
     let gr = grammar_of c.args.self.now.grammar.now in
-    given_here gr s (seen_with c.args.load.now (listed (option_copied c.args.first))) c.args.stack.now.items c.loop-r.stack.items c.pop.new.self.items c.in-Some.r c.in_ok-e.field-0 (reverse c.give.new.stack.items)
+    given_here gr s (seen_with c.args.load.now (listed (option_copied c.args.first))) c.args.stack.now.items c.loop-r.stack.items c.pop.new.self.items
+    c.in-Some.r c.in_ok-e.field-0 (reverse c.give.new.stack.items)
     (c.loop-r.invariant.gives s sends) c.in-Some.ensures.items (c.in_ok-e.ensures.gives s sends _) c.in-Some-2.e c.in-Some-2.is
 
 pub loop-r-preserved : goal.loop-r-preserved

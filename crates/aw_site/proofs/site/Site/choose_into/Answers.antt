@@ -16,7 +16,8 @@ invariant_of-self g c =
     let old = c.args.self.now in
     let gr = grammar_of c.args.g.now.grammar in
     record {
-      shown = shown_on c.choose-answered.result (Shows g.F.Facts old.space old.subs old.outbox.items old.loads) (Shows g.F.Facts c.choose-answered.new.space c.choose-answered.new.subs c.choose-answered.new.outbox.items old.loads)
+      shown = shown_on c.choose-answered.result (Shows g.F.Facts old.space old.subs old.outbox.items old.loads)
+          (Shows g.F.Facts c.choose-answered.new.space c.choose-answered.new.subs c.choose-answered.new.outbox.items old.loads)
           (λ s. after_choice s (choose gr s (choice_of c.args.choice.now))) c.choose-answered.ensures.site c.choose-answered.ensures.err old.shown;
       sendable = sendable_on g.F.Facts old.space c.choose-answered.new.space old.subs c.choose-answered.new.subs old.outbox.items c.choose-answered.new.outbox.items old.loads c.choose-answered.result
           (λ s. after_choice s (choose gr s (choice_of c.args.choice.now))) (λ s. sent_by (choose gr s (choice_of c.args.choice.now))) (ap grammar_of c.choose-answered.ensures.grammar)

@@ -18,9 +18,11 @@ invariant_of-self g c =
     let old = c.args.self.now in
     let gr = grammar_of c.args.g.now.grammar in
     record {
-      shown = shown_on c.receive-received.result (Shows g.F.Facts old.space old.subs old.outbox.items old.loads) (Shows g.F.Facts c.receive-received.new.space c.receive-received.new.subs c.receive-received.new.outbox.items old.loads)
+      shown = shown_on c.receive-received.result (Shows g.F.Facts old.space old.subs old.outbox.items old.loads)
+          (Shows g.F.Facts c.receive-received.new.space c.receive-received.new.subs c.receive-received.new.outbox.items old.loads)
           (λ s. after_message s (receive gr s (message_of gr c.args.m.now))) c.receive-received.ensures.site c.receive-received.ensures.err old.shown;
-      sendable = sendable_on g.F.Facts old.space c.receive-received.new.space old.subs c.receive-received.new.subs old.outbox.items c.receive-received.new.outbox.items old.loads c.receive-received.result
+      sendable = sendable_on g.F.Facts old.space c.receive-received.new.space old.subs c.receive-received.new.subs old.outbox.items
+          c.receive-received.new.outbox.items old.loads c.receive-received.result
           (λ s. after_message s (receive gr s (message_of gr c.args.m.now))) (λ s. sent_for (receive gr s (message_of gr c.args.m.now))) (ap grammar_of c.receive-received.ensures.grammar)
           (λ s shows. message_sends g.F.Facts old.space old.subs old.outbox.items old.loads s shows c.args.g.now.grammar c.args.m.now c.requires)
           c.receive-received.ensures.site c.receive-received.ensures.err old.shown old.sendable;

@@ -84,7 +84,8 @@ invariant_of-self g c =
     record {
       sound = taken_sound gr mid.role hs ks _ _ p es held told call may names more named c.put_if.ensures.ordered grows mid.sound;
       valid = taken_valid gr mid.role hs ks _ _ p es held told call may mid.valid;
-      stands = subst (λ x. IsKept (grammar_of x) ks (g.F.Facts.map c.learn_in_turn.new.facts) more c.learn_in_turn.new.kept) c.grammar-grammar.ensures.value (c.learn_in_turn.ensures.kept ks c.put_if.ensures.stands);
+      stands = subst (λ x. IsKept (grammar_of x) ks (g.F.Facts.map c.learn_in_turn.new.facts) more c.learn_in_turn.new.kept)
+          c.grammar-grammar.ensures.value (c.learn_in_turn.ensures.kept ks c.put_if.ensures.stands);
     }
 
 pub returns-clause-held : goal.returns-clause-held

@@ -116,7 +116,8 @@ returns-clause-steps g c =
     let names = g.F.Facts.names old.facts in
     let more = g.F.Facts.names c.add_all_ready.new.f in
     let most = λ (r : Ref). waiting_on r (site_worklist gr k (all_of gr hs)) in
-    let bound = closed_bound gr hs k l more old.kept c.close.new.self (g.met.F.Facts.once c.add_all_ready.new.f) c.close.ensures.fewer (named_more gr hs k names more old.kept c.add_all_ready.ensures.names old.stands) in
+    let bound = closed_bound gr hs k l more old.kept c.close.new.self (g.met.F.Facts.once c.add_all_ready.new.f) c.close.ensures.fewer
+    (named_more gr hs k names more old.kept c.add_all_ready.ensures.names old.stands) in
     omega (
       arith,
       c.put_all_open.ensures.steps,

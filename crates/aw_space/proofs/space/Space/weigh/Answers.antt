@@ -58,7 +58,8 @@ pub returns-in-None-clause-value : goal.returns-in-None-clause-value
 returns-in-None-clause-value g c = λ rule here.
     let old = c.args.self.now in
     let gr = grammar_of old.accepted.now.grammar in
-    ap (λ o. by_held o gr (g.F.Facts.map old.facts) c.args.node.now c.args.number (map ground_of c.args.args.now)) (sym (held_nowhere gr c.args.node.now old.held.items (sym c.requires.found ∙ c.in-None.is)))
+    ap (λ o. by_held o gr (g.F.Facts.map old.facts) c.args.node.now c.args.number (map ground_of c.args.args.now))
+    (sym (held_nowhere gr c.args.node.now old.held.items (sym c.requires.found ∙ c.in-None.is)))
 
 pub returns-in_ok-stands-in-Some-clause-room : goal.returns-in_ok-stands-in-Some-clause-room
 returns-in_ok-stands-in-Some-clause-room g c =

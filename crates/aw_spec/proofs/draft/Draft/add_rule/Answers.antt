@@ -5,9 +5,11 @@ use Rattle.aw_spec.proofs.LastRule.{put_kept}
 use Rattle.aw_spec.proofs.draft.Draft.add_rule.Goals as goal
 
 pub returns-in-None : goal.returns-in-None
-returns-in-None c = put_kept c.args.self.now c.taken.result c.in_ok-grammar.grammar c.put.new.grammar (rule_of_raw c.args.rule) None c.taken.ensures c.in_ok-grammar.ensures c.put.ensures c.in-None.ensures
+returns-in-None c = put_kept c.args.self.now c.taken.result c.in_ok-grammar.grammar c.put.new.grammar (rule_of_raw c.args.rule) None c.taken.ensures
+    c.in_ok-grammar.ensures c.put.ensures c.in-None.ensures
 
 pub returns-in-Some : goal.returns-in-Some
 returns-in-Some c =
     let fault = Some (c.in-Some.field-0-0, c.in-Some.kind) in
-    put_kept c.args.self.now c.taken.result c.in_ok-grammar.grammar c.put.new.grammar (rule_of_raw c.args.rule) fault c.taken.ensures c.in_ok-grammar.ensures c.put.ensures c.in-Some.ensures ∙ ap Wrong (sym c.face_kind.ensures)
+    put_kept c.args.self.now c.taken.result c.in_ok-grammar.grammar c.put.new.grammar (rule_of_raw c.args.rule) fault c.taken.ensures
+    c.in_ok-grammar.ensures c.put.ensures c.in-Some.ensures ∙ ap Wrong (sym c.face_kind.ensures)

@@ -22,7 +22,8 @@ returns-in-Some-clause-kept c g hs k names late done f =
     let value : x ≡ get_or xs n x = search rules in
     let old = slice_get_read xs (length xs) n x refl within value in
     subst (λ z. AreKept g (done_at done c.args.at hs) k names late ns (slice_set xs n y) z) (sym c.drop_node.ensures.waiting)
-    (kept_closed g names c.args.at n ns xs (slice_set xs n y) c.args.self.now.work.waiting x y here old (set_at xs n y within) (c.shrink_to_fit.ensures.items ∙ c.clear.ensures.items) refl refl refl hs k late done f)
+    (kept_closed g names c.args.at n ns xs (slice_set xs n y) c.args.self.now.work.waiting x y here old (set_at xs n y within)
+    (c.shrink_to_fit.ensures.items ∙ c.clear.ensures.items) refl refl refl hs k late done f)
 
 pub returns-in-Some-clause-room : goal.returns-in-Some-clause-room
 returns-in-Some-clause-room c n w r = record {
@@ -48,7 +49,9 @@ returns-in_default-clause-room c n w r = record {
 }
 
 pub returns-in-Some-clause-fewer : goal.returns-in-Some-clause-fewer
-returns-in-Some-clause-fewer c q = subst (λ z. waiting_at q z ≤ waiting_at q c.args.self.now.work.waiting) (sym c.drop_node.ensures.waiting) (others_wait_less q c.at-number.result c.args.self.now.work.waiting)
+returns-in-Some-clause-fewer c q = subst (λ z. waiting_at q z ≤ waiting_at q c.args.self.now.work.waiting) (sym c.drop_node.ensures.waiting)
+    (others_wait_less q c.at-number.result c.args.self.now.work.waiting)
 
 pub returns-in_default-clause-fewer : goal.returns-in_default-clause-fewer
-returns-in_default-clause-fewer c q = subst (λ z. waiting_at q z ≤ waiting_at q c.args.self.now.work.waiting) (sym c.drop_node.ensures.waiting) (others_wait_less q c.at-number.result c.args.self.now.work.waiting)
+returns-in_default-clause-fewer c q = subst (λ z. waiting_at q z ≤ waiting_at q c.args.self.now.work.waiting) (sym c.drop_node.ensures.waiting)
+    (others_wait_less q c.at-number.result c.args.self.now.work.waiting)

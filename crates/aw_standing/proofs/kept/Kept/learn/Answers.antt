@@ -15,7 +15,12 @@ test_pair-requires-clause-fits g c =
 
 pub loop-pair-smaller : goal.loop-pair-smaller
 loop-pair-smaller g c =
-    omega (arith, c.test_pair.ensures.waiting c.args.slot c.requires.learnt, taken_one c.args.slot c.in-Some.pair.node c.in-Some.pair.rule c.loop-pair.self.work.waiting c.take.new.self.waiting c.in-Some.ensures.some)
+    omega (
+      arith,
+      c.test_pair.ensures.waiting c.args.slot c.requires.learnt,
+      taken_one c.args.slot c.in-Some.pair.node c.in-Some.pair.rule
+          c.loop-pair.self.work.waiting c.take.new.self.waiting c.in-Some.ensures.some,
+    )
 
 pub loop-pair-preserved : goal.loop-pair-preserved
 loop-pair-preserved g c =
@@ -23,9 +28,16 @@ loop-pair-preserved g c =
     record {
       fits = c.test_pair.ensures.fits;
       kept = λ hs late f. c.test_pair.ensures.kept hs late
-          (kept_same (grammar_of c.args.grammar.now) hs (g.F.Facts.map c.args.facts.now) (g.F.Facts.names c.args.facts.now) late self.numbers.items self.numbers.items self.records.items self.records.items self.work.waiting
+          (kept_same (grammar_of c.args.grammar.now) hs (g.F.Facts.map c.args.facts.now) (g.F.Facts.names c.args.facts.now) late self.numbers.items
+          self.numbers.items self.records.items self.records.items self.work.waiting
           (triple c.args.slot c.in-Some.pair.node c.in-Some.pair.rule ∷ c.take.new.self.waiting) refl refl (λ p. count_same p _ _ c.in-Some.ensures.some) (c.loop-pair.invariant.kept hs late f));
-      fewer = λ q e. omega (arith, c.loop-pair.invariant.fewer q e, c.test_pair.ensures.waiting q e, taken_fewer q c.args.slot c.in-Some.pair.node c.in-Some.pair.rule c.loop-pair.self.work.waiting c.take.new.self.waiting c.in-Some.ensures.some);
+      fewer = λ q e. omega (
+        arith,
+        c.loop-pair.invariant.fewer q e,
+        c.test_pair.ensures.waiting q e,
+        taken_fewer q c.args.slot c.in-Some.pair.node
+            c.in-Some.pair.rule c.loop-pair.self.work.waiting c.take.new.self.waiting c.in-Some.ensures.some,
+      );
       room = λ n w r.
           let old = c.loop-pair.invariant.room n w r in
           c.test_pair.ensures.room n w (record { places = old.places; entries = old.entries; few = old.few; spare = omega (arith, old.spare, c.in-Some.ensures.spare) });
@@ -46,7 +58,8 @@ returns-clause-kept g c hs r late named f =
     let names = g.F.Facts.names c.args.facts.now in
     let self = c.loop-pair.self in
     subst (λ (z : Waits). AreKept gr hs k names late self.numbers.items self.records.items z.waiting) (sym c.in_default.ensures.unchanged)
-    (kept_learnt gr hs k names self.numbers.items self.records.items self.work.waiting c.args.slot r late (g.met.F.Facts.once c.args.facts.now) named c.in_default.ensures.none (c.loop-pair.invariant.kept hs (r ∷ late) f))
+    (kept_learnt gr hs k names self.numbers.items self.records.items self.work.waiting c.args.slot r late (g.met.F.Facts.once c.args.facts.now) named
+    c.in_default.ensures.none (c.loop-pair.invariant.kept hs (r ∷ late) f))
 
 pub returns-clause-room : goal.returns-clause-room
 returns-clause-room g c n w r =

@@ -19,7 +19,8 @@ returns-in-Some g c =
     pushed
     ∙ ap (λ ms. map item_of c.args.items.now.items ++ map (kept_item names c.args.node.now) ms) c.as_slice.ensures.value
     ∙ ap (λ z. map item_of c.args.items.now.items ++ map (kept_item names z) x.marks.items) (sym same)
-    ∙ ap (λ is. map item_of c.args.items.now.items ++ is) (items_at gr (g.F.Facts.map c.args.facts.now) names hs ns xs c.args.self.now.work.waiting c.args.at n h x kept here at (slice_get_read xs (length xs) n x refl (kept.fits.known c.args.at n here) value))) c.push_marks.ensures
+    ∙ ap (λ is. map item_of c.args.items.now.items ++ is) (items_at gr (g.F.Facts.map c.args.facts.now) names hs ns xs c.args.self.now.work.waiting
+    c.args.at n h x kept here at (slice_get_read xs (length xs) n x refl (kept.fits.known c.args.at n here) value))) c.push_marks.ensures
 
 pub returns-in-None : goal.returns-in-None
 returns-in-None g c gr hs h at same kept =

@@ -23,7 +23,9 @@ returns-in-Some g c =
     IfOk-weaker c.standing_in.result (SayOf names c.as_slice.result.now c.args.number)
     (λ (s : Standing). (gr : Grammar) (hs : List Held) (h : Held) → slice_get hs c.args.at ≡ Some h → IsKept gr hs k names kept → StandsAt gr k h c.args.number s)
     (λ s says gr hs h at f.
-    stands_said gr k names hs ns xs kept.work.waiting c.args.at n h x c.args.number s f here at (slice_get_read xs (length xs) n x refl (f.fits.known c.args.at n here) value) (subst (λ ms. SayOf names ms c.args.number s) c.as_slice.ensures.value says))
+    stands_said gr k names hs ns xs kept.work.waiting c.args.at n h x c.args.number s f here at
+    (slice_get_read xs (length xs) n x refl (f.fits.known c.args.at n here) value) (subst (λ ms. SayOf names ms c.args.number s)
+    c.as_slice.ensures.value says))
     c.standing_in.ensures
 
 pub returns-in-None : goal.returns-in-None

@@ -9,23 +9,28 @@ index-requires c =
 
 pub overflow_sub-result : goal.overflow_sub-result
 overflow_sub-result c =
-    (front_some _ _ _ c.self.invariant.sound c.args.list _ (rw (← c.self.view_is) at c.requires) (wide_read c.self.inside.links.items c.args.list c.index.result.now c.index.ensures) c.if-first-list.false).0
+    (front_some _ _ _ c.self.invariant.sound c.args.list _ (rw (← c.self.view_is) at c.requires) (wide_read c.self.inside.links.items c.args.list
+    c.index.result.now c.index.ensures) c.if-first-list.false).0
 
 pub returns-then-first-list-clause-value : goal.returns-then-first-list-clause-value
 returns-then-first-list-clause-value c =
-    rw (← c.self.view_is) (front_none _ _ _ c.self.invariant.sound c.args.list _ (rw (← c.self.view_is) at c.requires) (wide_read c.self.inside.links.items c.args.list c.index.result.now c.index.ensures) c.if-first-list.true).0
+    rw (← c.self.view_is) (front_none _ _ _ c.self.invariant.sound c.args.list _ (rw (← c.self.view_is) at c.requires)
+    (wide_read c.self.inside.links.items c.args.list c.index.result.now c.index.ensures) c.if-first-list.true).0
 
 pub returns-then-first-list-clause-empty : goal.returns-then-first-list-clause-empty
 returns-then-first-list-clause-empty c =
-    simp (← c.self.view_is) (front_none _ _ _ c.self.invariant.sound c.args.list _ (rw (← c.self.view_is) at c.requires) (wide_read c.self.inside.links.items c.args.list c.index.result.now c.index.ensures) c.if-first-list.true).1
+    simp (← c.self.view_is) (front_none _ _ _ c.self.invariant.sound c.args.list _ (rw (← c.self.view_is) at c.requires)
+    (wide_read c.self.inside.links.items c.args.list c.index.result.now c.index.ensures) c.if-first-list.true).1
 
 pub returns-else-first-list-clause-value : goal.returns-else-first-list-clause-value
 returns-else-first-list-clause-value c =
-    rw (← c.self.view_is) (front_some _ _ _ c.self.invariant.sound c.args.list _ (rw (← c.self.view_is) at c.requires) (wide_read c.self.inside.links.items c.args.list c.index.result.now c.index.ensures) c.if-first-list.false).1
+    rw (← c.self.view_is) (front_some _ _ _ c.self.invariant.sound c.args.list _ (rw (← c.self.view_is) at c.requires)
+    (wide_read c.self.inside.links.items c.args.list c.index.result.now c.index.ensures) c.if-first-list.false).1
 
 pub returns-else-first-list-clause-member : goal.returns-else-first-list-clause-member
 returns-else-first-list-clause-member c =
-    rw (← c.self.view_is) (front_some _ _ _ c.self.invariant.sound c.args.list _ (rw (← c.self.view_is) at c.requires) (wide_read c.self.inside.links.items c.args.list c.index.result.now c.index.ensures) c.if-first-list.false).2
+    rw (← c.self.view_is) (front_some _ _ _ c.self.invariant.sound c.args.list _ (rw (← c.self.view_is) at c.requires)
+    (wide_read c.self.inside.links.items c.args.list c.index.result.now c.index.ensures) c.if-first-list.false).2
 
 pub returns-then-first-list-clause-apart : goal.returns-then-first-list-clause-apart
 returns-then-first-list-clause-apart c =

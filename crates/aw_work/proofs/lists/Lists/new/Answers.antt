@@ -14,7 +14,8 @@ invariant_of-result c =
     c.in_ok-resize.ensures.items ∙ ap (λ xs. take c.args.keys xs ++ replicate more nobody) c.new-owners.ensures.items
     ∙ ap (λ xs. xs ++ replicate more nobody) (take_all c.args.keys nothing (omega arith)) ∙ ap (λ n. replicate n nobody) all in
     record {
-      sound = subst (λ owners. IsSound (all_wide c.loop-at.links.items) owners c.args.lists) (sym made) (closed_sound c.loop-at.links.items c.args.lists c.args.keys (omega arith) (λ at below. c.loop-at.invariant.closed at (omega (arith, below))));
+      sound = subst (λ owners. IsSound (all_wide c.loop-at.links.items) owners c.args.lists) (sym made)
+          (closed_sound c.loop-at.links.items c.args.lists c.args.keys (omega arith) (λ at below. c.loop-at.invariant.closed at (omega (arith, below))));
       few = omega arith;
     }
 

@@ -14,7 +14,13 @@ splice-requires-clause-next_in c =
 
 pub splice-requires-clause-prev_in : goal.splice-requires-clause-prev_in
 splice-requires-clause-prev_in c =
-    omega (arith, last_within _ _ _ c.self.invariant.sound c.args.list (head_within _ _ _ c.self.invariant.sound c.args.list (rw (← c.self.view_is) at c.requires.list_in)).0, wide_length c.self.inside.links.items, wide_prev c.self.inside.links.items c.args.list)
+    omega (
+      arith,
+      last_within _ _ _ c.self.invariant.sound c.args.list (head_within _ _ _ c.self.invariant.sound c.args.list
+          (rw (← c.self.view_is) at c.requires.list_in)).0,
+      wide_length c.self.inside.links.items,
+      wide_prev c.self.inside.links.items c.args.list,
+    )
 
 pub splice-requires-clause-not_next : goal.splice-requires-clause-not_next
 splice-requires-clause-not_next c same =
@@ -22,11 +28,14 @@ splice-requires-clause-not_next c same =
 
 pub splice-requires-clause-not_prev : goal.splice-requires-clause-not_prev
 splice-requires-clause-not_prev c same =
-    free_not_last _ _ _ c.self.invariant.sound c.args.list c.args.key (head_within _ _ _ c.self.invariant.sound c.args.list (rw (← c.self.view_is) at c.requires.list_in)).0 (rw (← c.self.view_is) at c.requires.unlinked)
+    free_not_last _ _ _ c.self.invariant.sound c.args.list c.args.key (head_within _ _ _ c.self.invariant.sound c.args.list
+    (rw (← c.self.view_is) at c.requires.list_in)).0 (rw (← c.self.view_is) at c.requires.unlinked)
     (omega (arith, same, wide_prev c.self.inside.links.items c.args.list))
 
 -- what the splice and the write of the owner make of the fields
-changes : (c : After-index_mut) → Changes (all_wide c.self.inside.links.items) (all_wide c.splice.new.links.items) c.self.inside.owners.items (set c.self.inside.owners.items c.args.key (Some c.args.list)) c.self.inside.heads c.args.list (items (lists_of (all_wide c.self.inside.links.items) c.self.inside.owners.items c.self.inside.heads) c.args.list ++ c.args.key ∷ [])
+changes : (c : After-index_mut) → Changes (all_wide c.self.inside.links.items) (all_wide c.splice.new.links.items) c.self.inside.owners.items
+    (set c.self.inside.owners.items c.args.key (Some c.args.list)) c.self.inside.heads c.args.list
+    (items (lists_of (all_wide c.self.inside.links.items) c.self.inside.owners.items c.self.inside.heads) c.args.list ++ c.args.key ∷ [])
 changes c =
     Changes-splice _ _ _ _ c.args.list c.args.key c.self.invariant.sound (omega (arith, wide_length c.self.inside.links.items, wide_length c.splice.new.links.items, c.splice.ensures.len))
     (head_within _ _ _ c.self.invariant.sound c.args.list (rw (← c.self.view_is) at c.requires.list_in)).0

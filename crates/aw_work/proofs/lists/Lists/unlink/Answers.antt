@@ -10,14 +10,26 @@ use Rattle.aw_work.proofs.lists.Lists.unlink.Goals.{After-index_mut}
 
 pub skip-requires-clause-prev_in : goal.skip-requires-clause-prev_in
 skip-requires-clause-prev_in c =
-    omega (arith, before_within _ _ _ c.self.invariant.sound c.in_ok-list.list c.args.key (rw (← c.self.view_is) at (sym c.in_ok-list.ensures)), wide_length c.self.inside.links.items, wide_prev c.self.inside.links.items (c.self.inside.heads + c.args.key))
+    omega (
+      arith,
+      before_within _ _ _ c.self.invariant.sound c.in_ok-list.list c.args.key (rw (← c.self.view_is) at (sym c.in_ok-list.ensures)),
+      wide_length c.self.inside.links.items,
+      wide_prev c.self.inside.links.items (c.self.inside.heads + c.args.key),
+    )
 
 pub skip-requires-clause-next_in : goal.skip-requires-clause-next_in
 skip-requires-clause-next_in c =
-    omega (arith, after_within _ _ _ c.self.invariant.sound c.in_ok-list.list c.args.key (rw (← c.self.view_is) at (sym c.in_ok-list.ensures)), wide_length c.self.inside.links.items, wide_next c.self.inside.links.items (c.self.inside.heads + c.args.key))
+    omega (
+      arith,
+      after_within _ _ _ c.self.invariant.sound c.in_ok-list.list c.args.key (rw (← c.self.view_is) at (sym c.in_ok-list.ensures)),
+      wide_length c.self.inside.links.items,
+      wide_next c.self.inside.links.items (c.self.inside.heads + c.args.key),
+    )
 
 -- what the skip and the write of the owner make of the fields
-changes : (c : After-index_mut) → Changes (all_wide c.self.inside.links.items) (all_wide c.skip.new.links.items) c.self.inside.owners.items (set c.self.inside.owners.items c.args.key None) c.self.inside.heads c.in_ok-list.list (without c.args.key (items (lists_of (all_wide c.self.inside.links.items) c.self.inside.owners.items c.self.inside.heads) c.in_ok-list.list))
+changes : (c : After-index_mut) → Changes (all_wide c.self.inside.links.items) (all_wide c.skip.new.links.items) c.self.inside.owners.items
+    (set c.self.inside.owners.items c.args.key None) c.self.inside.heads c.in_ok-list.list
+    (without c.args.key (items (lists_of (all_wide c.self.inside.links.items) c.self.inside.owners.items c.self.inside.heads) c.in_ok-list.list))
 changes c =
     Changes-skip _ _ _ _ c.in_ok-list.list c.args.key c.self.invariant.sound (omega (arith, wide_length c.self.inside.links.items, wide_length c.skip.new.links.items, c.skip.ensures.len))
     (rw (← c.self.view_is) at (sym c.in_ok-list.ensures)) (wide_skips c.self.inside.links.items c.skip.new.links.items (c.self.inside.heads + c.args.key) c.skip.ensures.skips)

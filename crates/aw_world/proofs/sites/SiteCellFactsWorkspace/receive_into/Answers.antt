@@ -23,7 +23,8 @@ returns-clause-new c = λ s shown.
 pub returns-clause-site : goal.returns-clause-site
 returns-clause-site c =
     let same = own_grammar c.accepted-own.result.now c.args.self.now.space.accepted.now c.args._accepted.now c.accepted-own.ensures c.requires in
-    subst (λ g. (s : Site) → IsShown cells.ghosts c.args.self.now s → IsShown cells.ghosts c.receive_into.new.self (after_message s (receive g s (message_of g c.args.message.now)))) same c.in_ok-received.ensures.site
+    subst (λ g. (s : Site) → IsShown cells.ghosts c.args.self.now s → IsShown cells.ghosts c.receive_into.new.self
+    (after_message s (receive g s (message_of g c.args.message.now)))) same c.in_ok-received.ensures.site
 
 pub returns-clause-sent : goal.returns-clause-sent
 returns-clause-sent c =
@@ -34,4 +35,5 @@ returns-clause-sent c =
 pub returns-clause-grows : goal.returns-clause-grows
 returns-clause-grows c =
     let g = grammar_of c.accepted-own.result.now.grammar in
-    grows_either (message_of g) (λ s. sent_for (receive g s (message_of g c.args.message.now))) c.receive_into.result c.args.copy.now c.receive_into.new.copy c.args.self.now.shown c.receive_into.ensures.copy c.receive_into.ensures.err_copy
+    grows_either (message_of g) (λ s. sent_for (receive g s (message_of g c.args.message.now))) c.receive_into.result c.args.copy.now
+    c.receive_into.new.copy c.args.self.now.shown c.receive_into.ensures.copy c.receive_into.ensures.err_copy

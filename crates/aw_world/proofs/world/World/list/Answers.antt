@@ -10,5 +10,6 @@ use Rattle.aw_world.proofs.world.World.list.Goals as goal
 pub returns : goal.returns
 returns g c =
     let w = c.args.self.now in
-    IfOk-weaker c.list.result _ (λ items. (v : V.World) → Shows g.W.Workspace w v → map item_of items ≡ site_worklist (grammar_of w.accepted.now.grammar) (V.site_at v c.args.role).equations (V.site_at v c.args.role).held)
+    IfOk-weaker c.list.result _ (λ items. (v : V.World) → Shows g.W.Workspace w v → map item_of items ≡ site_worklist
+    (grammar_of w.accepted.now.grammar) (V.site_at v c.args.role).equations (V.site_at v c.args.role).held)
     (λ items h v S. h (V.site_at v c.args.role) (c.site.ensures.shows v S)) c.list.ensures
