@@ -22,7 +22,8 @@ module _ {D : Type 0} (moment : D → ℕ) (left_since : D → ℕ → List ℕ 
   }
 
   -- one run and then another
-  pub runs_on : (old mid new : D) (P Q : List ℕ → Type 0) → LeavesOnly moment left_since old mid P → LeavesOnly moment left_since mid new Q → ((c : List ℕ) → Q c → P c) → LeavesOnly moment left_since old new P
+  pub runs_on : (old mid new : D) (P Q : List ℕ → Type 0) → LeavesOnly moment left_since old mid P → LeavesOnly moment left_since mid new Q →
+      ((c : List ℕ) → Q c → P c) → LeavesOnly moment left_since old new P
   runs_on old mid new P Q so_far then_run same = record {
     later = omega (arith, so_far.later, then_run.later);
     each = λ c left. ⊎_elim (so_far.each c) (λ again. same c (then_run.each c (again (moment mid) (omega arith)))) (then_run.before (moment old) c so_far.later left);

@@ -11,12 +11,15 @@ pub record Quiet {D : Type 0} (tells : D → Bool) (seen : D → List ℕ) (may_
   pub no_more : (c : List ℕ) → may_leave new c → may_leave old c
   pub any_moment : LeavesOnly moment left_since old new (may_leave old)
 
-module _ {D : Type 0} (tells : D → Bool) (seen : D → List ℕ) (may_leave : D → List ℕ → Type 0) (moment : D → ℕ) (left_since : D → ℕ → List ℕ → Type 0) (counts_now : (d : D) (t : ℕ) (c : List ℕ) → t ≤ moment d → may_leave d c → left_since d t c)
+module _ {D : Type 0} (tells : D → Bool) (seen : D → List ℕ) (may_leave : D → List ℕ → Type 0) (moment : D → ℕ) (left_since : D → ℕ → List ℕ → Type 0)
+    (counts_now : (d : D) (t : ℕ) (c : List ℕ) → t ≤ moment d → may_leave d c → left_since d t c)
     (only_now : (d : D) (c : List ℕ) → left_since d (moment d) c → may_leave d c) where
   pub quiet_none : (d : D) → Quiet tells seen may_leave moment left_since d d
   quiet_none d = record { told_same = refl; seen_same = refl; no_more = λ c left. left; any_moment = started moment left_since d (may_leave d) (only_now d) }
 
-  pub quiet_more : (old mid new : D) → Quiet tells seen may_leave moment left_since old mid → tells new ≡ tells mid → seen new ≡ seen mid → ((c : List ℕ) → may_leave new c → may_leave mid c) → Elapses (moment mid) (moment new) (left_since mid) (left_since new) (may_leave new) → Quiet tells seen may_leave moment left_since old new
+  pub quiet_more : (old mid new : D) → Quiet tells seen may_leave moment left_since old mid → tells new ≡ tells mid → seen new ≡ seen mid →
+      ((c : List ℕ) → may_leave new c → may_leave mid c) → Elapses (moment mid) (moment new) (left_since mid) (left_since new) (may_leave new) →
+      Quiet tells seen may_leave moment left_since old new
   quiet_more old mid new so_far same_tells same_seen fewer time = record {
     told_same = same_tells ∙ so_far.told_same;
     seen_same = same_seen ∙ so_far.seen_same;
@@ -25,7 +28,8 @@ module _ {D : Type 0} (tells : D → Bool) (seen : D → List ℕ) (may_leave : 
   }
 
   -- one quiet run and then another
-  pub quiet_then : (old mid new : D) → Quiet tells seen may_leave moment left_since old mid → Quiet tells seen may_leave moment left_since mid new → Quiet tells seen may_leave moment left_since old new
+  pub quiet_then : (old mid new : D) → Quiet tells seen may_leave moment left_since old mid → Quiet tells seen may_leave moment left_since mid new →
+      Quiet tells seen may_leave moment left_since old new
   quiet_then old mid new first next = record {
     told_same = next.told_same ∙ first.told_same;
     seen_same = next.seen_same ∙ first.seen_same;

@@ -1,7 +1,8 @@
 -- The exit code of each end of a run.
 use Rattle.std.specs.Prelude.{ℕ}
 use Rattle.aw_front.specs.declared.reply.Status.{Status}
-use Rattle.aw_front.specs.declared.reply.Status.TheVariants.{Done, Usage, BadSpec, Circular, BadSchedule, TooLarge, ReadFault, WriteFault, NetFault, NoMemory, TooLong, BadTypes, DiskFault, BadJournal, JournalFull, BadReply}
+use Rattle.aw_front.specs.declared.reply.Status.TheVariants.{Done, Usage, BadSpec, Circular, BadSchedule, TooLarge, ReadFault, WriteFault, NetFault}
+use Rattle.aw_front.specs.declared.reply.Status.TheVariants.{NoMemory, TooLong, BadTypes, DiskFault, BadJournal, JournalFull, BadReply}
 
 -- the exit code
 abbrev pub code_of : Status → ℕ

@@ -54,6 +54,7 @@ BytesAreSafe {D} d = (o : Origin D) (end : D) (last : List Event) (s t : Standin
 -- What was safe up to the end of one run is so up to the end of the next one, which goes on from the same disk: whatever a crash leaves since then has these
 -- events, behind the journal's own head.
 abbrev pub StaySafe : {D : Type 0} → Ghosts D → Type 0
-StaySafe {D} d = (o p : Origin D) (last answered later : List Event) (moment : ℕ) (events : List Event) (new : D) → IsTrue (d.tells p.disk) → p.role ≡ o.role → p.text ≡ o.text → p.first ≡ events_of (d.seen p.disk) →
+StaySafe {D} d = (o p : Origin D) (last answered later : List Event) (moment : ℕ) (events : List Event) (new : D) → IsTrue (d.tells p.disk) →
+    p.role ≡ o.role → p.text ≡ o.text → p.first ≡ events_of (d.seen p.disk) →
     IsSafeSince d o p.disk last moment events → IsLeft d p answered later new →
     (c : List ℕ) → d.left_since new moment c → (IsForeign o.role o.text c → ⊥) × Begins events (events_of c)

@@ -127,7 +127,8 @@ StopsKept {W} {D} w d r role text s u v old new Full =
 StopsKept {W} {D} w d r role text s u v old new NoMemory = IsNotBegun d role text u v old new ⊎ IsKeptCutOff w d r role text s u v old new append.NoMemory
 
 -- a node went on answering from this site and this moment, and stands then at the other site
-pub record GoesOn {W D : Type 0} (w : wires.Ghosts W) (d : disks.Ghosts D) (o : Origin D) (k : KeptSite) (moment : ℕ) (u v : W) (shows : Site → Type 0) (j : Kept) (now : D) (log : List SessionLog) : Type 0 where
+pub record GoesOn {W D : Type 0} (w : wires.Ghosts W) (d : disks.Ghosts D) (o : Origin D) (k : KeptSite) (moment : ℕ) (u v : W)
+    (shows : Site → Type 0) (j : Kept) (now : D) (log : List SessionLog) : Type 0 where
   pub after : Standing
   pub safe : IsTrue (d.tells o.disk) → IsSafeSince d o now after.kept.events moment k.events
   pub served : IsServing (RepliesSafely d o now after.kept.events) w.content w.faults w.failed_openings o.role (standing k moment) after u v log

@@ -1,5 +1,6 @@
 -- The tokens of a line, with their places in it.
-use Rattle.std.specs.Prelude.{◌≡◌, ◌<◌, ◌≤◌, ℕ, zero, suc, ◌+◌, ◌-◌, Bool, true, ◌||◌, ◌==◌, List, [], ◌∷◌, length, take, codes, slice_range, Option, Some, None, is_some, option_map, Result, Ok, Err, if◌then◌else◌}
+use Rattle.std.specs.Prelude.{◌≡◌, ◌<◌, ◌≤◌, ℕ, zero, suc, ◌+◌, ◌-◌, Bool, true, ◌||◌, ◌==◌, List, [], ◌∷◌, length, take, codes, slice_range, Option}
+use Rattle.std.specs.Prelude.{Some, None, is_some, option_map, Result, Ok, Err, if◌then◌else◌}
 use Rattle.std.specs.List.{list_any}
 use Rattle.aw_spelling.specs.Spelling.{is_letter, is_digit, is_name, number_of, node_name, unquoted, text_behind_quote}
 use Rattle.aw_lex.specs.declared.token.Token.{Token}

@@ -2,7 +2,8 @@
 use Rattle.aw_kept_node.specs.declared.fault.KeptFault.{KeptFault}
 use Rattle.aw_kept_node.specs.declared.fault.KeptFault.TheVariants as fault
 use Rattle.aw_front.specs.declared.reply.Status.{Status}
-use Rattle.aw_front.specs.declared.reply.Status.TheVariants.{Usage, BadSpec, Circular, BadSchedule, TooLarge, ReadFault, WriteFault, NetFault, NoMemory, TooLong, BadTypes, DiskFault, BadJournal, JournalFull}
+use Rattle.aw_front.specs.declared.reply.Status.TheVariants.{Usage, BadSpec, Circular, BadSchedule, TooLarge, ReadFault, WriteFault, NetFault, NoMemory}
+use Rattle.aw_front.specs.declared.reply.Status.TheVariants.{TooLong, BadTypes, DiskFault, BadJournal, JournalFull}
 use Rattle.aw_run.specs.declared.reply.Stop.{Stop}
 use Rattle.aw_run.specs.declared.reply.Stop.TheVariants as stop
 

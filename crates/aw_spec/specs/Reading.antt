@@ -27,7 +27,8 @@ use Rattle.aw_spec.specs.declared.fault.SpecKind.TheVariants.{Form, Order, Limit
 use Rattle.aw_spec.specs.Lines.{Line, RoleLine, ConLine, SortLine, StartLine, OfferLine, UseLine, TypeLine, ShapeLine, CarryLine, DependsLine, FreeLine, RuleLine, ScheduleLine}
 use Rattle.aw_spec.specs.ReadLine.{line_of}
 use Rattle.aw_spec.specs.TypeLines.{no_types, type_names, shape_named, carry_named, declared_at, with_at, item_at, is_other_arity, are_other_counts, are_no_positions, is_dependence, with_dependence}
-use Rattle.aw_spec.specs.Stages.{roles_stage, cons_stage, sorts_stage, starts_stage, offers_stage, uses_stage, types_stage, shapes_stage, carries_stage, depends_stage, free_stage, rules_stage, end_stage}
+use Rattle.aw_spec.specs.Stages.{roles_stage, cons_stage, sorts_stage, starts_stage, offers_stage, uses_stage, types_stage, shapes_stage, carries_stage}
+use Rattle.aw_spec.specs.Stages.{depends_stage, free_stage, rules_stage, end_stage}
 
 -- what a specification says: its declarations, the sorts that are offered, which role uses which sort, the types,
 -- which results may depend on which inherited values, and whether no tasks may wait for each other
