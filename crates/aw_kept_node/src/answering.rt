@@ -20,7 +20,7 @@ use aw_journal::{AppendFault, Journal};
 use aw_kept_append::keep;
 use aw_list::Text;
 use aw_msg::{Answered, Frame, reply_bytes};
-use aw_node::{Workspace, handle};
+use aw_node::{NodeWorkspace, handle};
 use aw_typed::Typed;
 use std::alloc::Global;
 
@@ -54,7 +54,7 @@ fn keep_and_tell<D: Disk>(
 }
 
 /// Answers a frame: what it was is on the disk before its reply is handed out.
-pub(crate) fn answer<P: Workspace, D: Disk>(
+pub(crate) fn answer<P: NodeWorkspace, D: Disk>(
     alloc: Global,
     accepted: &Accepted,
     typed: &Typed,

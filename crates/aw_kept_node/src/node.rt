@@ -9,7 +9,7 @@ use aw_disk::Disk;
 use aw_journal::{AppendFault, Journal};
 use aw_list::Text;
 use aw_msg::Frame;
-use aw_node::Workspace;
+use aw_node::NodeWorkspace;
 use aw_session::Handles;
 use aw_typed::Typed;
 use std::alloc::{AllocError, Global};
@@ -67,7 +67,7 @@ impl<'g, 'd, P, D> KeptNode<'g, 'd, P, D> {
     }
 }
 
-impl<P: Workspace, D: Disk> Handles for KeptNode<'_, '_, P, D> {
+impl<P: NodeWorkspace, D: Disk> Handles for KeptNode<'_, '_, P, D> {
     ghost use Rattle.std.specs.Prelude.{◌≢◌, IsTrue};
     ghost use Rattle.aw_kept_node.specs.Answering.{AnswersAndKeeps, FailsAsSeen};
     ghost use Rattle.aw_journal.specs.Journal.{IsSettled};

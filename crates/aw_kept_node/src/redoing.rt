@@ -18,7 +18,7 @@ use aw_choice::copy_choice;
 use aw_journal::NodeEvent;
 use aw_kept_append::is_news;
 use aw_msg::{Answered, Frame, copy_message};
-use aw_node::{Workspace, handle};
+use aw_node::{NodeWorkspace, handle};
 use aw_typed::Typed;
 use std::alloc::AllocError;
 
@@ -35,7 +35,7 @@ fn frame_for(event: &NodeEvent) -> Result<Frame, AllocError>
 }
 
 /// Asks for an event again. An error changes nothing.
-fn ask<P: Workspace>(
+fn ask<P: NodeWorkspace>(
     g: &Accepted,
     t: &Typed,
     site: &mut P,
@@ -57,7 +57,7 @@ fn ask<P: Workspace>(
 ///
 /// # Errors
 /// Where memory runs out.
-pub fn redo<P: Workspace>(
+pub fn redo<P: NodeWorkspace>(
     g: &Accepted,
     t: &Typed,
     site: &mut P,
@@ -78,7 +78,7 @@ pub fn redo<P: Workspace>(
 }
 
 /// Does the next event again.
-fn redo_next<P: Workspace>(
+fn redo_next<P: NodeWorkspace>(
     g: &Accepted,
     t: &Typed,
     site: &mut P,
@@ -102,7 +102,7 @@ fn redo_next<P: Workspace>(
 ///
 /// # Errors
 /// `BadEvent` at the first that is none; `NoMemory`.
-pub(crate) fn redo_all<P: Workspace>(
+pub(crate) fn redo_all<P: NodeWorkspace>(
     g: &Accepted,
     t: &Typed,
     site: &mut P,

@@ -17,7 +17,7 @@ use crate::redoing::redo_all;
 use aw_accept::Accepted;
 use aw_disk::Disk;
 use aw_journal::{AppendFault, Journal};
-use aw_node::{Workspace, served_nodes};
+use aw_node::{NodeWorkspace, served_nodes};
 use aw_out::Wire;
 use aw_session::{Log, Stopped, serve_sessions};
 use aw_typed::Typed;
@@ -27,7 +27,7 @@ use std::alloc::Global;
 pub const JOURNAL_LIMIT: u64 = 1_099_511_627_776;
 
 /// Serves sessions with a node, which stays on its disk.
-fn serve_node<W: Wire, D: Disk, P: Workspace>(
+fn serve_node<W: Wire, D: Disk, P: NodeWorkspace>(
     alloc: Global,
     node: &mut KeptNode<'_, '_, P, D>,
     role: u16,
@@ -58,7 +58,7 @@ fn serve_node<W: Wire, D: Disk, P: Workspace>(
 }
 
 /// Serves a workspace whose journal was reopened: the events in it are done again first.
-fn serve_reopened<W: Wire, D: Disk, P: Workspace>(
+fn serve_reopened<W: Wire, D: Disk, P: NodeWorkspace>(
     alloc: Global,
     g: &Accepted,
     t: &Typed,
@@ -99,7 +99,7 @@ fn serve_reopened<W: Wire, D: Disk, P: Workspace>(
 /// `BadHead` where the file has another head, `BadEvent` at the first event that is none: then nothing was served. `NetFault` where the next
 /// session could not be opened, `DiskFault` where a call of the disk failed, `Full` where the head or the record of an event would end past the
 /// limit, `NoMemory` where memory ran out. What was served before is as told, and stands on the disk.
-pub fn serve_kept_workspace<W: Wire, D: Disk, P: Workspace + Drop>(
+pub fn serve_kept_workspace<W: Wire, D: Disk, P: NodeWorkspace + Drop>(
     alloc: Global,
     g: &Accepted,
     t: &Typed,

@@ -16,7 +16,7 @@ ghost use Rattle.aw_law_sites.specs.Sites.{Site};
 ghost use Rattle.aw_law_sites.specs.Worlds.{node_of};
 ghost use Rattle.aw_typed.specs.Typing.{IsMadeFor};
 
-use crate::workspace::Workspace;
+use crate::workspace::NodeWorkspace;
 use aw_accept::Accepted;
 use aw_base::{choice_ok, home_of_valid};
 use aw_choice::Choice;
@@ -48,7 +48,7 @@ fn role_of_choice(g: &Grammar, c: &Choice) -> u16
 }
 
 /// Asks a choice: one that does not fit is not valid, and one of another role is refused.
-fn choose<P: Workspace>(
+fn choose<P: NodeWorkspace>(
     g: &Accepted,
     t: &Typed,
     site: &mut P,
@@ -75,7 +75,7 @@ fn choose<P: Workspace>(
 ///
 /// # Errors
 /// Where memory runs out; the workspace is then as before.
-pub fn handle<P: Workspace>(
+pub fn handle<P: NodeWorkspace>(
     g: &Accepted,
     t: &Typed,
     site: &mut P,

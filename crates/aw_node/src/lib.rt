@@ -14,4 +14,4 @@ pub use law::served_nodes;
 pub use listed::ListedSite;
 pub use node::Node;
 pub use serving::{ServeFault, serve, serve_workspace};
-pub use workspace::Workspace;
+pub use workspace::NodeWorkspace;

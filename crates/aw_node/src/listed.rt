@@ -8,7 +8,7 @@ ghost use Rattle.aw_site.specs.Seen.{IsShown};
 ghost use Rattle.aw_node.specs.Listed.{IsListed, IsListed-prop};
 
 use crate::sites::item_at;
-use crate::workspace::Workspace;
+use crate::workspace::NodeWorkspace;
 use aw_accept::Accepted;
 use aw_choice::{Answer, Choice, Worklist};
 use aw_msg::{Answered, Message};
@@ -46,7 +46,7 @@ impl<'g, F: Facts> ListedSite<'g, F> {
     }
 }
 
-impl<'g, F: Facts> Workspace for ListedSite<'g, F> {
+impl<'g, F: Facts> NodeWorkspace for ListedSite<'g, F> {
     ghost shows = { λ w s. IsShown ⟦<F as Facts>⟧ w.site s };
 
     ghost grammar = { λ w. w.site.space.accepted.now.grammar };
@@ -57,12 +57,12 @@ impl<'g, F: Facts> Workspace for ListedSite<'g, F> {
 
     fn choose(&mut self, g: &Accepted, c: &Choice) -> Result<Answer, AllocError> {
         self.items = None;
-        Workspace::choose(&mut self.site, g, c)
+        NodeWorkspace::choose(&mut self.site, g, c)
     }
 
     fn receive(&mut self, g: &Accepted, m: &Message) -> Result<Answered, AllocError> {
         self.items = None;
-        Workspace::receive(&mut self.site, g, m)
+        NodeWorkspace::receive(&mut self.site, g, m)
     }
 
     fn pull(&self, g: &Accepted, place: u64) -> Result<Answered, AllocError> {

@@ -4,7 +4,7 @@ ghost use Rattle.aw_grammar.specs.GrammarOf.{grammar_of};
 ghost use Rattle.aw_typed.specs.Typing.{IsMadeFor};
 
 use crate::handling::handle;
-use crate::workspace::Workspace;
+use crate::workspace::NodeWorkspace;
 use aw_accept::Accepted;
 use aw_list::Text;
 use aw_msg::{Frame, reply_bytes};
@@ -37,7 +37,7 @@ impl<'g, P> Node<'g, P> {
     }
 }
 
-impl<P: Workspace + Drop> Handles for Node<'_, P> {
+impl<P: NodeWorkspace + Drop> Handles for Node<'_, P> {
     ghost use Rattle.aw_node.specs.TypedNodes.{rules_of, AnswersAs};
 
     type Fault = AllocError;

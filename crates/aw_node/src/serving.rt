@@ -12,7 +12,7 @@ ghost use Rattle.aw_typed.specs.Typing.{IsMadeFor};
 use crate::law::served_nodes;
 use crate::listed::ListedSite;
 use crate::node::Node;
-use crate::workspace::Workspace;
+use crate::workspace::NodeWorkspace;
 use aw_accept::Accepted;
 use aw_cells::CellFacts;
 use aw_out::Wire;
@@ -33,7 +33,7 @@ pub enum ServeFault {
 ///
 /// # Errors
 /// `NetFault` where the next session could not be opened, `NoMemory` where memory ran out. What was served before is as told.
-pub fn serve_workspace<W: Wire, P: Workspace + Drop>(
+pub fn serve_workspace<W: Wire, P: NodeWorkspace + Drop>(
     alloc: Global,
     g: &Accepted,
     t: &Typed,

@@ -14,7 +14,7 @@ ghost use Rattle.aw_law_sites.specs.Sites as S;
 ghost use Rattle.aw_site.specs.Answers.{IsReceived};
 ghost use Rattle.aw_site.specs.Seen.{IsShown};
 
-use crate::workspace::Workspace;
+use crate::workspace::NodeWorkspace;
 use aw_accept::Accepted;
 use aw_choice::{Answer, Choice, Item, Worklist};
 use aw_msg::{Answered, Message, copy_message};
@@ -72,7 +72,7 @@ pub(crate) fn item_at(items: &Worklist, place: u64) -> Result<Answered, AllocErr
     }
 }
 
-impl<'g, F: Facts> Workspace for Site<'g, F> {
+impl<'g, F: Facts> NodeWorkspace for Site<'g, F> {
     ghost shows = { λ w s. IsShown ⟦<F as Facts>⟧ w s };
 
     ghost grammar = { λ w. w.space.accepted.now.grammar };

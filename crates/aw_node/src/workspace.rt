@@ -21,7 +21,7 @@ use aw_msg::{Answered, Message};
 use std::alloc::AllocError;
 
 /// A workspace that may show several plain sites, and answers as each of them does.
-pub trait Workspace {
+pub trait NodeWorkspace {
     /// The plain sites that it shows.
     ghost shows: { Self → Site → Type 0 };
 

@@ -111,7 +111,7 @@ fn prepare_with_room<'g, F: Facts>(
 
 /// Does what a choice was foreseen to lead to, and sends what follows from it; the answer, and how many messages were sent, which are added
 /// to the outbox and to a copy. An error changes nothing.
-fn settle<'g, F: Facts>(
+fn decide<'g, F: Facts>(
     g: &Accepted,
     space: &mut Space<'g, F>,
     subs: &mut Subs,
@@ -196,5 +196,5 @@ pub fn choose<'g, F: Facts>(
         let Outcome { answer, .. } = foreseen;
         return Ok((answer, 0));
     }
-    settle(g, space, subs, outbox, loads, choice, foreseen, copy)
+    decide(g, space, subs, outbox, loads, choice, foreseen, copy)
 }

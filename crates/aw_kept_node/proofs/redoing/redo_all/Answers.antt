@@ -18,7 +18,7 @@ loop-number-preserved g c =
     record {
       grammar = c.redo_next.ensures.grammar ∙ i.grammar;
       redone = λ s shown.
-          redone-more r s (g.P.Workspace.shows c.redo_next.new.site) es n (n + 1) c.index-events-number.result refl c.loop-number-test.true c.index-events-number.is (i.redone s shown).0
+          redone-more r s (g.P.NodeWorkspace.shows c.redo_next.new.site) es n (n + 1) c.index-events-number.result refl c.loop-number-test.true c.index-events-number.is (i.redone s shown).0
           (c.in_ok-redo_next.ensures.ok (site_by r s (events_seen (take n es))) (i.redone s shown).1);
     }
 

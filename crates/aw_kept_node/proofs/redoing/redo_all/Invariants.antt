@@ -8,6 +8,6 @@ use Rattle.aw_kept_node.proofs.redoing.redo_all.Given as goal
 -- the events so far were done again
 abbrev pub invariant-loop-number : goal.invariant-loop-number
 invariant-loop-number g l = record {
-  grammar : g.P.Workspace.grammar l.site ≡ g.P.Workspace.grammar l.initial.site;
-  redone : (s : Site) → g.P.Workspace.shows l.initial.site s → RedoesAll (rules_of l.g.grammar l.t) s (events_seen (take l.number l.events)) (g.P.Workspace.shows l.site);
+  grammar : g.P.NodeWorkspace.grammar l.site ≡ g.P.NodeWorkspace.grammar l.initial.site;
+  redone : (s : Site) → g.P.NodeWorkspace.shows l.initial.site s → RedoesAll (rules_of l.g.grammar l.t) s (events_seen (take l.number l.events)) (g.P.NodeWorkspace.shows l.site);
 }

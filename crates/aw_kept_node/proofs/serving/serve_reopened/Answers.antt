@@ -22,11 +22,11 @@ returns-in-Ok-clause-served g c head before s was shown =
     let r = rules_of c.args.g.now.grammar c.args.t.now in
     let j = c.args.journal.now in
     let events = events_seen j.events in
-    let shows = g.P.Workspace.shows c.redo_all.new.site in
+    let shows = g.P.NodeWorkspace.shows c.redo_all.new.site in
     let redone = rw c.events.ensures.events at c.in_ok-redo_all.ensures.ok s shown in
     let first = stands-first g.W.Wire g.D.Disk r c.args.role head s before c.args.disk.now shows j redone was in
     let n = c.new-node.ensures in
-    let stands = stands-here g.D.Disk (begun_at r s c.args.role head events before) g.P.Workspace.shows c.new-node.result.site.now c.redo_all.new.site
+    let stands = stands-here g.D.Disk (begun_at r s c.args.role head events before) g.P.NodeWorkspace.shows c.new-node.result.site.now c.redo_all.new.site
     c.new-node.result.journal.now j c.new-node.result.disk.now c.args.disk.now (reopened r s events) n.site n.journal n.disk first in
     let same : c.serve_node.new.node.disk.now ≡ c.in-Ok.disk-1-own.given.0 = sym (c.in-Ok.disk-1-own.given.1 (sym (c.serve_node.ensures.same_disk ∙ n.same_disk))) in
     subst (λ x. IsKeptServing g.W.Wire g.D.Disk r c.args.role head s c.args.wire.now c.serve_node.new.wire before x c.in-Ok.log) same
@@ -39,11 +39,11 @@ returns-in-Err-NetFault-clause-stopped g c head before s was shown =
     let r = rules_of c.args.g.now.grammar c.args.t.now in
     let j = c.args.journal.now in
     let events = events_seen j.events in
-    let shows = g.P.Workspace.shows c.redo_all.new.site in
+    let shows = g.P.NodeWorkspace.shows c.redo_all.new.site in
     let redone = rw c.events.ensures.events at c.in_ok-redo_all.ensures.ok s shown in
     let first = stands-first g.W.Wire g.D.Disk r c.args.role head s before c.args.disk.now shows j redone was in
     let n = c.new-node.ensures in
-    let stands = stands-here g.D.Disk (begun_at r s c.args.role head events before) g.P.Workspace.shows c.new-node.result.site.now c.redo_all.new.site
+    let stands = stands-here g.D.Disk (begun_at r s c.args.role head events before) g.P.NodeWorkspace.shows c.new-node.result.site.now c.redo_all.new.site
     c.new-node.result.journal.now j c.new-node.result.disk.now c.args.disk.now (reopened r s events) n.site n.journal n.disk first in
     let same : c.serve_node.new.node.disk.now ≡ c.disk-in-Err-NetFault-1.given.0 = sym (c.disk-in-Err-NetFault-1.given.1 (sym (c.serve_node.ensures.same_disk ∙ n.same_disk))) in
     subst (λ x. IsKeptUnopened g.W.Wire g.D.Disk r c.args.role head s c.args.wire.now c.serve_node.new.wire before x) same
@@ -56,11 +56,11 @@ returns-in-Err-Node-clause-stopped g c head before s was shown =
     let r = rules_of c.args.g.now.grammar c.args.t.now in
     let j = c.args.journal.now in
     let events = events_seen j.events in
-    let shows = g.P.Workspace.shows c.redo_all.new.site in
+    let shows = g.P.NodeWorkspace.shows c.redo_all.new.site in
     let redone = rw c.events.ensures.events at c.in_ok-redo_all.ensures.ok s shown in
     let first = stands-first g.W.Wire g.D.Disk r c.args.role head s before c.args.disk.now shows j redone was in
     let n = c.new-node.ensures in
-    let stands = stands-here g.D.Disk (begun_at r s c.args.role head events before) g.P.Workspace.shows c.new-node.result.site.now c.redo_all.new.site
+    let stands = stands-here g.D.Disk (begun_at r s c.args.role head events before) g.P.NodeWorkspace.shows c.new-node.result.site.now c.redo_all.new.site
     c.new-node.result.journal.now j c.new-node.result.disk.now c.args.disk.now (reopened r s events) n.site n.journal n.disk first in
     let same : c.serve_node.new.node.disk.now ≡ c.disk-in-Err-Node-1.given.0 = sym (c.disk-in-Err-Node-1.given.1 (sym (c.serve_node.ensures.same_disk ∙ n.same_disk))) in
     subst (λ x. StopsKept g.W.Wire g.D.Disk r c.args.role head s c.args.wire.now c.serve_node.new.wire before x c.from.result) same

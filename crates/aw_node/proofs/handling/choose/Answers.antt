@@ -16,5 +16,5 @@ returns-clause-answer g c s shown =
     let fits : arg_ok (types_of c.args.t.now.types) (grammar_of c.args.g.now.grammar) (choice_of c.args.c.now) ≡ true = sym (c.arg_ok.ensures _ c.requires.types) ∙ c.if-not-arg_ok.false in
     let here : home (grammar_of c.args.g.now.grammar) (node_of (choice_of c.args.c.now)) ≡ s.role =
     (rw c.grammar-2.ensures.value at c.role_of_choice.ensures) ∙ c.if-role_of_choice-role.false ∙ c.role.ensures s shown in
-    choice-taken (rules_of c.args.g.now.grammar c.args.t.now) s (choice_of c.args.c.now) (g.P.Workspace.shows c.choose.new.self) _ ok fits here
+    choice-taken (rules_of c.args.g.now.grammar c.args.t.now) s (choice_of c.args.c.now) (g.P.NodeWorkspace.shows c.choose.new.self) _ ok fits here
     (c.in_ok-choose.ensures.answer s shown) (c.in_ok-choose.ensures.site s shown)

@@ -5,7 +5,7 @@ use Rattle.aw_msg.specs.MessageView.{message_of}
 use Rattle.aw_law_sites.specs.Reacting.{receive}
 use Rattle.aw_site.specs.Seen.{IsShown}
 use Rattle.aw_node.proofs.SiteReplies.{received_site}
-use Rattle.aw_node.proofs.sites.SiteWorkspace.receive.Goals as goal
+use Rattle.aw_node.proofs.sites.SiteNodeWorkspace.receive.Goals as goal
 
 pub returns-in_err-received-clause-err : goal.returns-in_err-received-clause-err
 returns-in_err-received-clause-err g c = λ s shown. err_any c.from_residual.result (c.in_err-received.ensures.err s shown)

@@ -12,7 +12,7 @@ use Rattle.aw_site.proofs.ChosenSites.{site_reacted, sent_reacted}
 use Rattle.aw_site.proofs.Holding.{count_planned, copy_planned, shown_planned}
 use Rattle.aw_site.proofs.InRange.{short_more}
 use Rattle.aw_site.proofs.Unchanged.{if_err, as_it_was, still_shown}
-use Rattle.aw_site.proofs.choosing.settle.Goals as goal
+use Rattle.aw_site.proofs.choosing.decide.Goals as goal
 
 pub returns-in-Ok-clause-count : goal.returns-in-Ok-clause-count
 returns-in-Ok-clause-count g c = λ s shows.
