@@ -33,7 +33,7 @@ pub enum Met {
     Circle(usize),
 }
 
-/// Patterns against slots, from the first attribute on. What was bound before is let go.
+/// Patterns against slots, from the first attribute on. What was bound before is dropped.
 fn guard_all<F: Facts>(f: &F, patterns: &[Pattern], inherited: &[usize], bound: &mut Binding) -> Met
     requires { IsTestable (F.names f.now) patterns.now inherited.now }
     ensures { IsGuardOf (F.map f.now) (F.names f.now) patterns.now inherited.now (guard_with bound.new result) }
@@ -55,7 +55,7 @@ fn guard_all<F: Facts>(f: &F, patterns: &[Pattern], inherited: &[usize], bound: 
     Met::Yes
 }
 
-/// As `test_guard`, with a binding that is lent: where the patterns match it has what their variables take.
+/// As `test_guard`, with a binding that is borrowed: where the patterns match it has what their variables take.
 pub fn test_into<F: Facts, L: Ledger>(
     f: &F,
     rule: &Rule,

@@ -13,7 +13,7 @@ use std::alloc::Global;
 /// Room for one read, in bytes.
 const PIECE: usize = 4096;
 
-/// Writes all the bytes, or a front part of them and then tells the fault.
+/// Writes all the bytes, or a prefix of them and then tells the fault.
 fn write_all<W: Wire>(wire: &mut W, bytes: &[u8]) -> Result<(), Broken>
     requires { W.is_open wire.old ≡ true }
     ensures all { OnOk result (Talks W.content W.is_open W.faults W.failed_openings wire.old wire.new [] bytes.now false) }

@@ -44,7 +44,7 @@ pub trait Pages {
     ghost read_on: { (p q r : Self) → was_read p q → was_read q r → was_read p r };
 }
 
-/// A disk that is lent to be read.
+/// A disk that is borrowed to be read.
 #[derive(Drop)]
 pub struct DiskPages<'d, D> {
     pub disk: &'d mut D,

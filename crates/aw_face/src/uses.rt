@@ -54,7 +54,7 @@ impl Uses {
         Ok(())
     }
 
-    /// The pairs, lent.
+    /// The pairs, borrowed.
     pub fn as_slice(&self) -> &[Using]
         ensures { result.now ≡ self.now }
     {

@@ -34,12 +34,12 @@ reply_with (NoReplyOf role) = reply BadReply (codes "bad reply " ++ (role ++ cod
 abbrev pub Replies : (Output → Type 0) → Reply → Type 0
 Replies P said = (output : Output) × P output × (said ≡ reply_with output)
 
--- the reply to a grammar that was not accepted; want of memory has none
+-- the reply to a grammar that was not accepted; out of memory has none
 abbrev pub RefusesGrammar : Refused → Reply → Type 0
 RefusesGrammar (refused.Circular grammar rule occ) said = said ≡ reply_with (IsCircular (circle_text (words_of grammar) (record { rule = rule; occ = occ })))
 RefusesGrammar refused.NoMemory said = ⊥
 
--- the reply to types with a fault; want of memory has none
+-- the reply to types with a fault; out of memory has none
 abbrev pub RefusesTypes : Words → TypeFault → Reply → Type 0
 RefusesTypes w (types.NoShape con) said = said ≡ reply_with (BadTypes (types_text w (NoShape con)))
 RefusesTypes w (types.NoCarry sort) said = said ≡ reply_with (BadTypes (types_text w (NoCarry sort)))

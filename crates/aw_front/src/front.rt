@@ -47,7 +47,7 @@ fn text_of(alloc: Global, spec: &SpecText, writes: bool) -> Result<Text, AllocEr
     }
 }
 
-/// The grammar of a specification, the rest of which is let go.
+/// The grammar of a specification, the rest of which is dropped.
 pub fn grammar_alone(spec: SpecText) -> Grammar
     ensures { result ≡ spec.grammar }
 {

@@ -1,6 +1,6 @@
 //! Building a grammar, one declaration after the other.
 //!
-//! A grammar that is given up is let go whole, by `drop`: it is proved in far less time than field by field.
+//! A grammar that is given up is dropped whole, by `drop`: it is proved in far less time than field by field.
 ghost use Rattle.std.specs.Prelude.{◌≡◌, ◌<◌, ◌++◌, true, [], length, IfOk, None};
 ghost use Rattle.aw_grammar.specs.Declarations.{with_start_at};
 ghost use Rattle.aw_spelling.specs.Spelling.{is_name};

@@ -69,7 +69,7 @@ pub record KeepsFile {D : Type 0} (d : Ghosts D) (role : ℕ) (text : List ℕ) 
   pub told_same : d.tells new ≡ d.tells old
   pub never_falls : d.faults old ≤ d.faults new
 
--- what is answered where a file is read and opened; what is refused for its head, its place or want of memory touches nothing
+-- what is answered where a file is read and opened; what is refused for its head or its place, or out of memory, touches nothing
 abbrev pub Reopens : {D : Type 0} → Ghosts D → ℕ → List ℕ → ℕ → D → D → Result Kept OpenFault → Type 0
 Reopens d role text limit old new (Ok j) = IsOpened d role text limit old new j
 Reopens d role text limit old new (Err DiskFault) = Rose (d.faults old) (d.faults new)

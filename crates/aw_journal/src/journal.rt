@@ -237,7 +237,7 @@ fn put_record<D: Disk>(disk: &mut D, gate: u64, b: &[u8]) -> Did
     }
 }
 
-/// Writes a whole record behind its gate, which is closed, and opens it; the record is let go.
+/// Writes a whole record behind its gate, which is closed, and opens it; the record is dropped.
 fn put_whole<D: Disk>(disk: &mut D, gate: u64, bytes: Text) -> Did
     requires some { 0 < length bytes }
     requires fits { gate + 1 + length bytes < 2 ^ 64 }
@@ -358,7 +358,7 @@ fn make_beginning(alloc: Global, role: u16, text: &[u8], limit: u64) -> Result<B
     Ok(Beginning { text: kept, head })
 }
 
-/// Puts a head behind the first gate of a file without one, which is closed before, and opens it; the bytes are let go.
+/// Puts a head behind the first gate of a file without one, which is closed before, and opens it; the bytes are dropped.
 fn put_head<D: Disk>(disk: &mut D, bytes: &[u8], fresh: Vec<u8>) -> Did
     requires headless { has_head bytes.now ≡ false }
     requires read { IsTrue (D.tells disk.old) → bytes.now ≡ take 2 (D.seen disk.old) }

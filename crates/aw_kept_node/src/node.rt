@@ -24,7 +24,7 @@ impl From<AllocError> for Unanswered {
     }
 }
 
-/// A workspace of a role that is lent, with the grammar and the types that it was made for, its journal, and the disk that this stands on.
+/// A borrowed workspace of a role, with the grammar and the types that it was made for, its journal, and the disk that this stands on.
 #[derive(Drop)]
 pub struct KeptNode<'g, 'd, P, D> {
     alloc: Global,
@@ -33,7 +33,7 @@ pub struct KeptNode<'g, 'd, P, D> {
     site: &'d mut P,
     journal: &'d mut Journal,
     disk: &'d mut D,
-    /// Why a frame got no reply: want of memory, until the journal says otherwise.
+    /// Why a frame got no reply: out of memory, until the journal says otherwise.
     pub(crate) reason: AppendFault,
 }
 

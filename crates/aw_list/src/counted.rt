@@ -32,7 +32,7 @@ impl<T> Counted<T> {
         }
     }
 
-    /// The value, lent.
+    /// The value, borrowed.
     pub fn get(&self) -> &T
         ensures { result.now ≡ self.now }
     {

@@ -52,7 +52,7 @@ impl<T> Items<T> {
         items
     }
 
-    /// The items, lent.
+    /// The items, borrowed.
     pub fn as_slice(&self) -> &[T]
         ensures { result.now ≡ self.now }
     {

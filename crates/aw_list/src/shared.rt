@@ -41,7 +41,7 @@ impl<T> Shared<T> {
         self.alloc
     }
 
-    /// The items, lent.
+    /// The items, borrowed.
     pub fn as_slice(&self) -> &[T]
         ensures { result.now ≡ self.now }
     {

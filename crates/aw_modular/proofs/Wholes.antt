@@ -123,7 +123,7 @@ appended rules new r rest left all next step so = ap (λ rs. rs ++ rest) step �
 pub told_circular : (g h : GrammarValue) (e : Refused) (rule : ℕ) (occ : Occ) → e ≡ Circular h rule occ → HasNoCircle (grammar_of g) (IO (grammar_of g)) → Tells g e → ⊥
 told_circular g h e rule occ is free told = never (not_circular (grammar_of g) (record { rule = rule; occ = occ }) free (subst (Tells g) is told).1)
 
--- what is told of a grammar without a circle is want of memory
+-- what is told of a grammar without a circle is out of memory
 pub told_memory : (g : GrammarValue) (e : Refused) → HasNoCircle (grammar_of g) (IO (grammar_of g)) → Tells g e → e ≡ NoMemory
 told_memory g NoMemory free told = refl
 told_memory g (Circular h rule occ) free told = absurd (told_circular g h (Circular h rule occ) rule occ refl free told)

@@ -5,7 +5,7 @@ use Rattle.aw_codec.specs.Bytes.{AreBytes}
 use Rattle.aw_msg.specs.Frames.{Frame, spelled_frame, frame}
 use Rattle.aw_msg.proofs.FrameLaws.{frame_law}
 
--- what is behind the front part
+-- what is behind the prefix
 pub rest_is : (bytes : List ℕ) (f : Frame) (rest : List ℕ) → AreBytes bytes → frame bytes ≡ Ok (f, rest) → drop (length bytes - length rest) bytes ≡ rest
 rest_is bytes f rest fits e =
     let t = frame_law.taken bytes f rest fits e in

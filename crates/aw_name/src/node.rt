@@ -55,7 +55,7 @@ impl Model for Rows {
 }
 
 impl Rows {
-    /// The steps, lent.
+    /// The steps, borrowed.
     fn steps(&self) -> &[Step]
         ensures { result.now ≡ self.now }
     {

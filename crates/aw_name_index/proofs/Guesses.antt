@@ -33,7 +33,7 @@ placed f x (y ∷ ys) (suc i) k distinct within at same =
     ap (option_map (λ j. suc j)) (placed f x ys i k (IsDistinct-tail _ y ys distinct) less at same)
     ∙ sym (ap (λ b. cond b (Some 0) (option_map (λ j. suc j) (place_of x (map f ys)))) passed)
 
--- and so where the list was lent
+-- and so where the list was borrowed
 pub place_at : {K : Type 0} (f : K → List ℕ) (x : List ℕ) (ks lent : List K) (i : ℕ) (k : K) → lent ≡ ks → IsDistinct (λ a b. is_same (f a) (f b))
     ks → i < length lent → get_or lent i k ≡ k → f k ≡ x → Some i ≡ place_of x (map f ks)
 place_at f x ks lent i k e distinct within at same =

@@ -54,7 +54,7 @@ pub trait Sink {
     /// How often a call has failed.
     ghost faults: { Self → ℕ };
 
-    /// Writes a front part of the bytes, of which there is at least one.
+    /// Writes a prefix of the bytes, of which there is at least one.
     fn write(&mut self, b: &[u8]) -> Put
         requires { 0 < length b.now }
         ensures count { FitsBytes result b.now }
@@ -131,7 +131,7 @@ pub trait Wire {
         ensures cause { result ≡ Got.Failed → Rose (faults self.old) (faults self.new) }
         ensures kept { result ≢ Got.Failed → faults self.new ≡ faults self.old };
 
-    /// Writes a front part of the bytes, of which there is at least one, in the open session.
+    /// Writes a prefix of the bytes, of which there is at least one, in the open session.
     fn write(&mut self, b: &[u8]) -> Put
         requires some { 0 < length b.now }
         requires open { is_open self.old ≡ true }

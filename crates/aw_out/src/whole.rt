@@ -45,7 +45,7 @@ pub fn read_all<S: Source>(alloc: Global, src: &mut S, limit: usize) -> Result<T
     }
 }
 
-/// Writes all the bytes, or a front part of them and then tells the sink's fault. It takes no memory.
+/// Writes all the bytes, or a prefix of them and then tells the sink's fault. It takes no memory.
 pub fn write_all<K: Sink>(out: &mut K, b: &[u8]) -> Result<(), WriteError>
     ensures all { OnOk result (Gets (K.written out.old) (K.written out.new) b.now) }
     ensures prefix { OnErr result (GetsPrefix (K.written out.old) (K.written out.new) b.now) }

@@ -9,12 +9,12 @@ use Rattle.aw_sched.specs.declared.fault.SchedFault.TheVariants as read
 use Rattle.aw_replay.specs.declared.scheduled.ReplayFault.{ReplayFault}
 use Rattle.aw_replay.specs.declared.scheduled.ReplayFault.TheVariants.{Bad, TooLarge, NoMemory}
 
--- a faulty line, or want of memory to read it
+-- a faulty line, or out of memory in reading it
 abbrev pub of_schedule : SchedFault → ReplayFault
 of_schedule (read.Bad line kind) = Bad line kind
 of_schedule read.NoMemory = NoMemory
 
--- too long a text, or want of memory to print it
+-- too long a text, or out of memory in printing it
 abbrev pub of_printing : PrintFault → ReplayFault
 of_printing print.TooLarge = TooLarge
 of_printing print.NoMemory = NoMemory

@@ -155,7 +155,7 @@ fn fault_with_left(reader: &mut ScheduleReader<'_>, fault: ReplayFault) -> Repla
 }
 
 /// Replays the events that are left of a schedule and are kept, in a world in which nothing happened yet: the lines of all events, and
-/// then the artifacts where every message was delivered, and otherwise how many were not. An event is let go before the next is read, so
+/// then the artifacts where every message was delivered, and otherwise how many were not. An event is dropped before the next is read, so
 /// that beside its text a schedule takes memory for the tokens of one line and the names that were read last. Where a line is faulty,
 /// nothing else is told, whatever stands before it. The world is then that behind the events that are told. After an error some first
 /// choices and deliveries of events that are kept were made in it.

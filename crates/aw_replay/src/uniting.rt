@@ -40,7 +40,7 @@ fn accept_united(alloc: Global, accepted: &Accepted, one: Grammar) -> Result<Acc
     }
 }
 
-/// The same accepted grammar with one role alone. It has no circle either, so that want of memory is the only error.
+/// The same accepted grammar with one role alone. It has no circle either, so that out of memory is the only error.
 pub fn unite_accepted(alloc: Global, accepted: &Accepted) -> Result<Accepted, AllocError>
     ensures words { IfOk result (λ one. words_of one.grammar ≡ united_words (words_of accepted.now.grammar)) }
     ensures grammar { IfOk result (λ one. grammar_of one.grammar ≡ united (grammar_of accepted.now.grammar)) }

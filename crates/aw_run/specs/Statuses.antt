@@ -25,7 +25,7 @@ stop_of (fault.BadEvent number) = stop.BadJournal
 stop_of fault.Full = stop.JournalFull
 stop_of fault.NoMemory = stop.NoMemory
 
--- the run was not stopped by a fault or by want of memory
+-- the run was not stopped by a fault or by running out of memory
 abbrev pub IsReply : Status → Type 0
 IsReply ReadFault = ⊥
 IsReply WriteFault = ⊥

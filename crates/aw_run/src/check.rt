@@ -99,7 +99,7 @@ struct Asked {
     free: bool,
 }
 
-/// The grammar of a specification, and what is asked of it. The rest is let go.
+/// The grammar of a specification, and what is asked of it. The rest is dropped.
 fn grammar_and_asked(spec: SpecText) -> (Grammar, Asked)
     ensures grammar { result.0 ≡ spec.grammar }
     ensures asked { result.1 ≡ record { faces = spec.faces; depends = spec.depends; free = spec.free } }

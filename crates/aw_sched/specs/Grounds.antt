@@ -24,7 +24,7 @@ abbrev pub known_grounds : List (List ℕ) → List Written → Option (List Gro
 known_grounds cons [] = Some []
 known_grounds cons (t ∷ ts) = option_and_then (λ g. option_map (λ gs. g ∷ gs) (known_grounds cons ts)) (known_ground cons t)
 
--- what is found, or that a name is not declared; want of memory says nothing
+-- what is found, or that a name is not declared; out of memory says nothing
 abbrev pub Finds : {X Y : Type 0} → (X → Y) → Option Y → Result X LineFault → Type 0
 Finds view found (Ok x) = found ≡ Some (view x)
 Finds view found (Err (Bad kind)) = (found ≡ None) × (kind ≡ Unknown)

@@ -23,7 +23,7 @@ use Rattle.aw_sched.specs.declared.fault.SchedKind.TheVariants.{Limit, Unknown, 
 use Rattle.aw_sched.specs.declared.fault.LineFault.{LineFault}
 use Rattle.aw_sched.specs.declared.fault.LineFault.TheVariants.{Bad, NoMemory}
 
--- the event, or the kind of fault; want of memory says nothing
+-- the event, or the kind of fault; out of memory says nothing
 abbrev pub GivesEvent : Option SchedKind → P.Event → Result Event LineFault → Type 0
 GivesEvent kind event (Ok e) = (kind ≡ None) × (event ≡ event_seen e)
 GivesEvent kind event (Err (Bad k)) = kind ≡ Some k
@@ -58,7 +58,7 @@ GivesArgs d g rule args (Ok x) = AreFound d g rule args x.0 x.1
 GivesArgs d g rule args (Err (Bad k)) = args_kind d rule args ≡ Some k
 GivesArgs d g rule args (Err NoMemory) = Unit {0}
 
--- what reading a line answers: nothing, an event, or the kind of fault; want of memory says nothing
+-- what reading a line answers: nothing, an event, or the kind of fault; out of memory says nothing
 abbrev pub ReadsLine : LineRead → Result (Option Event) LineFault → Type 0
 ReadsLine read (Ok None) = read ≡ Nothing
 ReadsLine read (Ok (Some e)) = read ≡ Gives (event_seen e)

@@ -14,7 +14,7 @@ AreAnswered {S} answers s [] (x ∷ xs) t = ⊥
 AreAnswered {S} answers s (f ∷ fs) [] t = ⊥
 AreAnswered {S} answers s (f ∷ fs) (x ∷ xs) t = (m : S) × answers s f x m × AreAnswered answers m fs xs t
 
--- all but the last one were written whole, and of the last one a front part, but not all
+-- all but the last one were written whole, and of the last one a prefix, but not all
 pub record IsCutShort (replies : List (List ℕ)) (written : List ℕ) : Type 0 where
   pub whole : List (List ℕ)
   pub last : List ℕ

@@ -29,7 +29,7 @@ pub record Talks {W : Type 0} (content : W → Option Content) (is_open : W → 
 abbrev pub TalksOver : {W : Type 0} → wires.Ghosts W → W → W → List ℕ → List ℕ → Bool → Type 0
 TalksOver f old new = Talks f.content f.is_open f.faults f.failed_openings old new
 
--- of some bytes a front part was written, but not all, and then a write failed
+-- of some bytes a prefix was written, but not all, and then a write failed
 pub record TalksInPart {W : Type 0} (content : W → Option Content) (is_open : W → Bool) (faults failed_openings : W → ℕ) (old new : W) (bytes : List ℕ) : Type 0 where
   pub count : ℕ
   pub part : count < length bytes

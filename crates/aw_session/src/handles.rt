@@ -9,7 +9,7 @@ use std::alloc::AllocError;
 
 /// A workspace that is asked frame by frame.
 pub trait Handles {
-    /// Why a frame gets no reply, want of memory among the causes.
+    /// Why a frame gets no reply, out of memory among the causes.
     type Fault: From<AllocError> + Drop;
 
     /// What has to hold of the workspace where it is asked.

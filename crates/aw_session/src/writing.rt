@@ -4,7 +4,7 @@ ghost use Rattle.aw_session.specs.Talking.{Talks, TalksInPart};
 
 use aw_out::{Put, Wire, WriteError};
 
-/// Writes all the bytes, or a front part of them and then tells the fault.
+/// Writes all the bytes, or a prefix of them and then tells the fault.
 pub(crate) fn write_all<W: Wire>(wire: &mut W, bytes: &[u8]) -> Result<(), WriteError>
     requires { W.is_open wire.old ≡ true }
     ensures all { OnOk result (Talks W.content W.is_open W.faults W.failed_openings wire.old wire.new [] bytes.now false) }

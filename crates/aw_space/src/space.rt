@@ -75,7 +75,7 @@ impl<'g, F: Facts> Space<'g, F> {
         &self.held
     }
 
-    /// The store of equations, lent.
+    /// The store of equations, borrowed.
     pub fn facts(&self) -> &F
         ensures { result.now ≡ self.now.facts }
     {

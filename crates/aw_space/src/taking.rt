@@ -204,7 +204,7 @@ impl<'g, F: Facts> Space<'g, F> {
         }
     }
 
-    /// Takes a rule on the node at a place, for which all is ready: the node is done and what was kept of it is let go, the
+    /// Takes a rule on the node at a place, for which all is ready: the node is done and what was kept of it is dropped, the
     /// equations are known and each rule that waited for one of them is tested, and the children are held. Nothing can be refused.
     fn take_ready<L: Ledger>(
         &mut self,

@@ -25,7 +25,7 @@ pub struct SpecText {
 }
 
 impl SpecText {
-    /// The grammar; all else is let go.
+    /// The grammar; all else is dropped.
     pub fn into_grammar(self) -> Grammar
         ensures { result ≡ self.grammar }
     {

@@ -43,7 +43,7 @@ fn stands_by(deep: bool, rule: &Rule, met: Met) -> Stands
     }
 }
 
-/// How a rule stands at a node that inherits what these slots name. The binding is lent for the test. One call is one step.
+/// How a rule stands at a node that inherits what these slots name. The binding is borrowed for the test. One call is one step.
 fn test_stands<F: Facts, L: Ledger>(
     facts: &F,
     rule: &Rule,

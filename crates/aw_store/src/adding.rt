@@ -83,7 +83,7 @@ pub fn reserve_in(
     Ok(())
 }
 
-/// What adding a body comes to, where the left side has one. An error is for want of memory to copy that one.
+/// What adding a body comes to, where the left side has one. An error is out of memory for copying that one.
 fn compare(kept: &Body, came: Body) -> Result<Added, AllocError>
     ensures added { IfOk result (Compares kept.now came) }
     ensures same { kept.now ≡ came → IsOk result }

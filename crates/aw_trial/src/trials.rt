@@ -87,7 +87,7 @@ fn trial_in(alloc: Global, accepted: &Accepted, n: u64) -> Result<Summary, Print
     try_in(&mut world, n)
 }
 
-/// A trial in the world of the trial's grammar, which is let go then.
+/// A trial in the world of the trial's grammar, which is dropped then.
 fn try_once(alloc: Global, n: u64) -> Result<Summary, PrintFault>
     ensures { Tells (trial n) result }
 {

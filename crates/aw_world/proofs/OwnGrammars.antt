@@ -9,7 +9,7 @@ use Rattle.aw_grammar.specs.GrammarOf.{grammar_of}
 use Rattle.aw_term.specs.SameGrammar.{same_grammar}
 use Rattle.aw_term.proofs.GrammarTests.{grammars_are_one}
 
--- the grammar that is lent, that of the site, and the given one
+-- the grammar that is borrowed, that of the site, and the given one
 pub own_grammar : (lent own given : Accepted) → lent ≡ own → same_grammar (grammar_of own.grammar) (grammar_of given.grammar) ≡ true → grammar_of lent.grammar ≡ grammar_of given.grammar
 own_grammar lent own given e same = ap (λ a. grammar_of a.grammar) e ∙ grammars_are_one _ _ same
 

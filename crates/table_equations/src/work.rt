@@ -8,7 +8,7 @@ use std::alloc::{AllocError, Global};
 /// What is done with each reference of each node.
 #[derive(Clone, Copy)]
 pub enum Work {
-    /// It is built, and let go.
+    /// It is built, and dropped.
     Built,
     /// It is named.
     Named,

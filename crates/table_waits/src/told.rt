@@ -55,7 +55,7 @@ fn events_of(alloc: Global, g: &Grammar, schedule: &[u8]) -> Result<Events, Entr
     events_with(alloc, g, &typed, schedule)
 }
 
-/// Does the events of a schedule. What is told of them is let go.
+/// Does the events of a schedule. What is told of them is dropped.
 fn do_events<W: Workspace>(
     alloc: Global,
     world: &mut World<W>,
@@ -152,7 +152,7 @@ fn accepted_of(alloc: Global, g: Grammar) -> Result<Accepted, EntryFault> {
     }
 }
 
-/// The grammar of a specification, where its schedule begins, and whether it has loads. Its other parts are let go.
+/// The grammar of a specification, where its schedule begins, and whether it has loads. Its other parts are dropped.
 fn parts_of(spec: SpecText) -> (Grammar, usize, bool)
     ensures { result.1 ≡ spec.rest }
 {
