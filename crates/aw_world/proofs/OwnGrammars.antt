@@ -1,9 +1,7 @@
 -- What a site does by its own grammar, it does by the same grammar given anew.
 use Rattle.std.proofs.Common.{◌≡◌, ◌≤◌, true, List, ◌++◌, map, length, ap, ◌∙◌, arith}
 use Rattle.std.specs.Prelude.{Result, Ok, Err, IfOk, OnOk, OnErr}
-use Rattle.std.proofs.Math.Logic.{∥∥₁_elim}
 use Rattle.std.proofs.lemmas.List.{length-append, length-map}
-use Rattle.std.specs.Coded.{le_prop}
 use Rattle.aw_accept.specs.declared.accepted.Accepted.{Accepted}
 use Rattle.aw_grammar.specs.GrammarOf.{grammar_of}
 use Rattle.aw_term.specs.SameGrammar.{same_grammar}
@@ -20,12 +18,19 @@ longer f old new more e =
     omega (arith, l, length-map old f, length-map new f)
 
 -- nor does it where an error adds nothing
-pub grows_either : {S A B X E : Type 0} {P : S → Type 0} (f : A → B) (more : S → List B) (r : Result X E) (old new : List A) → ∥ ((s : S) × P s) ∥₁
-    → OnOk r ((s : S) → P s → map f new ≡ map f old ++ more s) → OnErr r (new ≡ old) → length old ≤ length new
-grows_either f more (Ok x) old new shown added kept = ∥∥₁_elim shown le_prop (λ s. longer f old new (more s.0) (added s.0 s.1))
-grows_either f more (Err e) old new shown added kept = let l = ap length kept in omega (arith, l)
+pub grows_either : {A B X E : Type 0} (f : A → B) (more : List B) (r : Result X E) (old new : List A) → OnOk r (map f new ≡ map f old ++ more) → OnErr r (new ≡ old) → length old ≤ length new
+grows_either f more (Ok x) old new added kept = longer f old new more added
+grows_either f more (Err e) old new added kept = let l = ap length kept in omega (arith, l)
 
 -- what holds of a value, made into what it leads to
 pub if_ok : {A E : Type 0} {P Q : A → Type 0} (r : Result A E) → IfOk r P → ((x : A) → P x → Q x) → IfOk r Q
 if_ok (Ok x) p f = f x p
 if_ok (Err e) p f = tt
+
+pub on_ok : {A E : Type 0} (P Q : Type 0) (r : Result A E) → OnOk r P → (P → Q) → OnOk r Q
+on_ok P Q (Ok x) p f = f p
+on_ok P Q (Err e) p f = tt
+
+pub on_err : {A E : Type 0} (P Q : Type 0) (r : Result A E) → OnErr r P → (P → Q) → OnErr r Q
+on_err P Q (Ok x) p f = tt
+on_err P Q (Err e) p f = f p

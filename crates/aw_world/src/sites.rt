@@ -1,6 +1,6 @@
 //! Worlds whose workspaces are the sites of the program.
 ghost use Rattle.std.specs.Prelude.{◌≡◌, ◌<◌, true, IfOk, map as list_map};
-ghost use Rattle.std.proofs.Common.{ap};
+ghost use Rattle.std.proofs.Common.{ap, sym};
 ghost use Rattle.aw_apply.specs.Messages.{Received as Answered};
 ghost use Rattle.aw_choice.specs.ChoiceView.{item_of};
 ghost use Rattle.aw_grammar.specs.GrammarOf.{grammar_of};
@@ -166,7 +166,7 @@ impl<'g> Workspace for Site<'g, CellFacts> {
         )
     }
 
-    ghost has_role = { λ w s shown. shown.holds.role };
+    ghost has_role = { λ w s shown. ap (λ x. x.role) (sym shown) };
 
     ghost in_order = { λ w. w.space.sound.ordered };
 
@@ -174,7 +174,7 @@ impl<'g> Workspace for Site<'g, CellFacts> {
 
     ghost keeps_on = { λ w g old new p grown ready. ready_on g (⟦<CellFacts as Facts>⟧.map w.space.facts) (⟦<CellFacts as Facts>⟧.names w.space.facts) old new p grown ready };
 
-    ghost holds = { λ w s shown. ap (λ x. x.held) shown.holds.holds };
+    ghost holds = { λ w s shown. ap (λ x. x.held) (sym shown) };
 }
 
 impl<'g> Made<'g> for Site<'g, CellFacts> {
