@@ -60,11 +60,11 @@ invariant_of-self g c =
       sendable = sendable_on g.F.Facts old.space c.choose-answered.new.space old.subs c.choose-answered.new.subs old.outbox.items c.choose-answered.new.outbox.items old.loads
           c.choose-answered.result (after_choice (site_seen g.F.Facts old) x) (sent_by x) (ap grammar_of c.choose-answered.ensures.grammar)
           (choice_sends g.F.Facts old.space old.subs old.outbox.items old.loads (site_seen g.F.Facts old) (shows_seen g.F.Facts old.space old.subs old.outbox.items old.loads) c.args.g.now.grammar
-              (choice_of c.args.choice.now) c.requires.grammar c.requires.ok c.requires.here)
+          (choice_of c.args.choice.now) c.requires.grammar c.requires.ok c.requires.here)
           (done_seen g.F.Facts old.space c.choose-answered.new.space old.subs c.choose-answered.new.subs old.outbox.items c.choose-answered.new.outbox.items old.loads
-              c.choose-answered.result (λ s. after_choice s (choose gr s (choice_of c.args.choice.now))) c.choose-answered.ensures.site)
+          c.choose-answered.result (λ s. after_choice s (choose gr s (choice_of c.args.choice.now))) c.choose-answered.ensures.site)
           (kept_seen g.F.Facts old.space c.choose-answered.new.space old.subs c.choose-answered.new.subs old.outbox.items c.choose-answered.new.outbox.items old.loads
-              c.choose-answered.result c.choose-answered.ensures.err)
+          c.choose-answered.result c.choose-answered.ensures.err)
           old.sendable;
       short = c.choose-answered.ensures.short old.short;
     }

@@ -52,11 +52,11 @@ invariant_of-self g c =
       sendable = sendable_on g.F.Facts old.space c.receive-received.new.space old.subs c.receive-received.new.subs old.outbox.items c.receive-received.new.outbox.items old.loads
           c.receive-received.result (after_message (site_seen g.F.Facts old) x) (sent_for x) (ap grammar_of c.receive-received.ensures.grammar)
           (message_sends g.F.Facts old.space old.subs old.outbox.items old.loads (site_seen g.F.Facts old) (shows_seen g.F.Facts old.space old.subs old.outbox.items old.loads) c.args.g.now.grammar
-              c.args.m.now c.requires)
+          c.args.m.now c.requires)
           (done_seen g.F.Facts old.space c.receive-received.new.space old.subs c.receive-received.new.subs old.outbox.items c.receive-received.new.outbox.items old.loads
-              c.receive-received.result (λ s. after_message s (receive gr s (message_of gr c.args.m.now))) c.receive-received.ensures.site)
+          c.receive-received.result (λ s. after_message s (receive gr s (message_of gr c.args.m.now))) c.receive-received.ensures.site)
           (kept_seen g.F.Facts old.space c.receive-received.new.space old.subs c.receive-received.new.subs old.outbox.items c.receive-received.new.outbox.items old.loads
-              c.receive-received.result c.receive-received.ensures.err)
+          c.receive-received.result c.receive-received.ensures.err)
           old.sendable;
       short = c.receive-received.ensures.short old.short;
     }
