@@ -94,26 +94,26 @@ pub record IsReady {W : Type 0} (f : Ghosts W) (w : W) (d : Grammar) (lines : Li
 
 -- Whatever the line of the node at this place is, it was printed into the report, and where it is too long that is told.
 pub record PrintsTask {W : Type 0} (f : Ghosts W) (w : W) (d : Grammar) (place : ℕ) (old new : Bounded) (result : Result Unit TasksFault) : Type 0 where
-  pub text : (s : Site) → f.shows w s → (h : Held) → slice_get s.held place ≡ Some h → (text : List ℕ) → IsLine d s.equations h text →
+  pub text : (h : Held) → slice_get (f.seen w).held place ≡ Some h → (text : List ℕ) → IsLine d (f.seen w).equations h text →
       OnOk result (new ≡ printed old text)
-  pub long : (s : Site) → f.shows w s → (h : Held) → slice_get s.held place ≡ Some h → IfErr result (TellsLine d s.equations h)
+  pub long : (h : Held) → slice_get (f.seen w).held place ≡ Some h → IfErr result (TellsLine d (f.seen w).equations h)
 
 -- Whatever is printed of the node at this place, it was handed on behind what was left, and where it is too long that is told.
 pub record HandsTask {W : Type 0} (f : Ghosts W) (w : W) (d : Grammar) (v : View) (place : ℕ) (before left : List ℕ) (old now : Option (List ℕ))
     (result : Result Unit TasksFault) : Type 0 where
-  pub text : (s : Site) → f.shows w s → (h : Held) → slice_get s.held place ≡ Some h → (text : List ℕ) → IsTold d v s.equations h text →
+  pub text : (h : Held) → slice_get (f.seen w).held place ≡ Some h → (text : List ℕ) → IsTold d v (f.seen w).equations h text →
       Hands old now (before ++ text) left result
-  pub long : (s : Site) → f.shows w s → IfErr result (TellsTask d v s)
+  pub long : IfErr result (TellsTask d v (f.seen w))
 
 -- Whatever is printed of the nodes, it was handed on behind what was left, and where a line is too long that is told.
 pub record HandsTasks {W : Type 0} (f : Ghosts W) (w : W) (d : Grammar) (v : View) (before left : List ℕ) (old now : Option (List ℕ))
     (result : Result Unit TasksFault) : Type 0 where
-  pub text : (s : Site) → f.shows w s → (texts : List (List ℕ)) → Pairs (IsTold d v s.equations) s.held texts →
+  pub text : (texts : List (List ℕ)) → Pairs (IsTold d v (f.seen w).equations) (f.seen w).held texts →
       Hands old now (before ++ concat texts) left result
-  pub long : (s : Site) → f.shows w s → IfErr result (TellsTask d v s)
+  pub long : IfErr result (TellsTask d v (f.seen w))
 
 -- Whatever is printed of the nodes, it was written, and where a line is too long that is told.
 pub record WritesLines {W : Type 0} (f : Ghosts W) (w : W) (d : Grammar) (v : View) (old now : Option (List ℕ))
     (result : Result Unit TasksFault) : Type 0 where
-  pub text : (s : Site) → f.shows w s → (texts : List (List ℕ)) → Pairs (IsTold d v s.equations) s.held texts → Writes old now (concat texts) result
-  pub long : (s : Site) → f.shows w s → IfErr result (TellsTask d v s)
+  pub text : (texts : List (List ℕ)) → Pairs (IsTold d v (f.seen w).equations) (f.seen w).held texts → Writes old now (concat texts) result
+  pub long : IfErr result (TellsTask d v (f.seen w))

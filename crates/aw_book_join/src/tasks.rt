@@ -1,7 +1,6 @@
 //! The tasks of a workspace.
 ghost use Rattle.std.specs.Prelude.{◌≡◌, true};
 ghost use Rattle.aw_grammar.specs.GrammarOf.{grammar_of};
-ghost use Rattle.aw_law_sites.specs.Sites.{Site};
 ghost use Rattle.aw_term.specs.SameGrammar.{same_grammar};
 ghost use Rattle.aw_book_join.specs.Handing.{CountsWrites};
 ghost use Rattle.aw_book_join.specs.Writing.{WritesTasks};
@@ -30,10 +29,10 @@ pub fn write_tasks<W: Workspace, K: Sink>(
     out: &mut K,
 ) -> Result<(), TasksFault>
     requires { same_grammar (W.its_grammar site.now) (grammar_of accepted.now.grammar) ≡ true }
-    ensures writes { (s : Site) → W.shows site.now s → WritesTasks accepted.now.grammar view.now s (K.written out.old) (K.written out.new) result }
+    ensures writes { WritesTasks accepted.now.grammar view.now (W.seen site.now) (K.written out.old) (K.written out.new) result }
     ensures counts { CountsWrites (K.faults out.old) (K.faults out.new) result }
 {
     write_lines(alloc, accepted, site, view, out)?;
-    let items = site.list(accepted)?;
+    let items = site.list()?;
     write_items(alloc, accepted.grammar(), &view.case, items.as_slice(), out)
 }

@@ -5,7 +5,6 @@ use Rattle.std.specs.Coded.{le_prop}
 use Rattle.std.proofs.lemmas.List.{length-map}
 use Rattle.std.proofs.lemmas.Option.{slice_get-map, slice_get_past}
 use Rattle.std.proofs.lemmas.Bool.{eq-eqb}
-use Rattle.std.proofs.Math.Bool.{Bool-set}
 use Rattle.std.proofs.Math.Logic.{∥∥₁_elim}
 use Rattle.aw_term.specs.Names.{Node}
 use Rattle.aw_term.specs.Rules.{Grammar}
@@ -19,7 +18,7 @@ use Rattle.aw_law_sites.specs.Homes.{home}
 use Rattle.aw_law_sites.specs.SiteEvents.{after_message}
 use Rattle.aw_law_sites.specs.Sites.{Site, Reaction}
 use Rattle.aw_space.specs.Spaces.{is_home}
-use Rattle.aw_site.specs.Seen.{role_in, IsShown}
+use Rattle.aw_site.specs.Seen.{role_in, site_seen, IsShown}
 use Rattle.aw_site.specs.declared.site.Site as program
 use Rattle.aw_law_nodes.specs.Told.{told}
 
@@ -51,7 +50,11 @@ at_none f say xs place count c l =
 
 -- a node of the role of each plain site that is shown is at home here
 pub here_at : {F : Type 0} (f : Ghosts F) (site : program.Site F f) (g : Grammar) (n : Node) → ((s : Site) → IsShown f site s → home g n ≡ s.role) → is_home g (role_in f site) n ≡ true
-here_at f site g n h = ∥∥₁_elim site.shown (Bool-set _ _) (λ w. eq-eqb _ _ (h w.0 w.1 ∙ w.1.holds.role))
+here_at f site g n h = eq-eqb _ _ (h (site_seen f site) refl)
+
+-- what holds of the plain site that a site is, holds of each that it shows
+pub as_seen : {F : Type 0} (f : Ghosts F) (site : program.Site F f) (P : Site → Type 0) → P (site_seen f site) → (s : Site) → IsShown f site s → P s
+as_seen f site P p s e = subst P e p
 
 -- a grammar has 64 roles at most
 pub few_roles : (g : declared.Grammar) → (grammar_of g).roles ≤ 64

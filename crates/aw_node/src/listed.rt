@@ -1,10 +1,7 @@
 //! A site that keeps its worklist while nothing changes.
 ghost use Rattle.std.specs.Prelude.{◌≡◌, IfOk, map as list_map};
 ghost use Rattle.aw_choice.specs.ChoiceView.{item_of};
-ghost use Rattle.aw_grammar.specs.GrammarOf.{grammar_of};
-ghost use Rattle.aw_law_sites.specs.Sites as S;
-ghost use Rattle.aw_law_sites.specs.Worklists.{site_worklist};
-ghost use Rattle.aw_site.specs.Seen.{IsShown};
+ghost use Rattle.aw_site.specs.Seen.{worklist_at, IsShown};
 ghost use Rattle.aw_node.specs.Listed.{IsListed, IsListed-prop};
 
 use crate::sites::item_at;
@@ -37,7 +34,7 @@ impl<'g, F: Facts> ListedSite<'g, F> {
     fn take_items(&mut self, g: &Accepted) -> Result<Worklist, AllocError>
         requires { g.now.grammar ≡ self.old.site.space.accepted.now.grammar }
         ensures site { self.new.site ≡ self.old.site }
-        ensures items { IfOk result (λ items. (s : S.Site) → IsShown ⟦<F as Facts>⟧ self.old.site s → list_map item_of items ≡ site_worklist (grammar_of g.now.grammar) s.equations s.held) }
+        ensures items { IfOk result (λ items. list_map item_of items ≡ worklist_at ⟦<F as Facts>⟧ g.now.grammar self.old.site) }
     {
         match self.items.take() {
             Some(items) => Ok(items),

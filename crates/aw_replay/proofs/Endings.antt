@@ -31,8 +31,8 @@ module _ {W : Type 0} (f : Ghosts W) (w : World W f) (old new : Bounded) (r : Re
   -- a message was not delivered
   pub ending_open : (k : ℕ) → first_open w ≡ Some k → Prints (undelivered_line (V.count_open (marks w.messages w.marks.delivered.items))) old new r → PrintsEnding f w old new r
   ending_open k first prints v S =
-      let u : V.undelivered v ≡ Some k = ap (V.first_false 0) S.delivered ∙ first in
-      subst (λ t. Prints t old new r) (sym (ap (ending_on (named_by w) (plain_of w) v) u ∙ ap (λ bs. undelivered_line (V.count_open bs)) S.delivered)) prints
+      let u : V.undelivered v ≡ Some k = ap V.undelivered (sym S) ∙ first in
+      subst (λ t. Prints t old new r) (sym (ap (ending_on (named_by w) (plain_of w) v) u ∙ ap (λ (u : V.World). undelivered_line (V.count_open u.delivered)) (sym S))) prints
 
   configured : undivided (plain_of w) [] (map choice_of w.taken.items) ≡ None → ⊥
   configured none = ∥∥₁_elim (reached_configured f w.accepted.now w.loads w.sites.items w.messages w.marks.delivered.items w.taken.items w.reached) ⊥_prop
@@ -45,6 +45,6 @@ module _ {W : Type 0} (f : Ghosts W) (w : World W f) (old new : Bounded) (r : Re
   -- every message was delivered
   pub ending_quiet : first_open w ≡ None → PrintsQuiet f w old new r → PrintsEnding f w old new r
   ending_quiet quiet prints v S =
-      let u : V.undelivered v ≡ None = ap (V.first_false 0) S.delivered ∙ quiet in
-      subst (λ t. Prints t old new r) (sym (ap (ending_on (named_by w) (plain_of w) v) u ∙ ap (λ cs. artifacts_on (named_by w) (undivided (plain_of w) [] cs)) S.taken))
+      let u : V.undelivered v ≡ None = ap V.undelivered (sym S) ∙ quiet in
+      subst (λ t. Prints t old new r) (sym (ap (ending_on (named_by w) (plain_of w) v) u ∙ ap (λ (u : V.World). artifacts_on (named_by w) (undivided (plain_of w) [] u.taken)) (sym S)))
       (quiet_cases prints (undivided (plain_of w) [] (map choice_of w.taken.items)) refl)

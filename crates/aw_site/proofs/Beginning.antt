@@ -1,8 +1,6 @@
--- A site at its beginning, and a site after an event.
-use Rattle.std.proofs.Common.{◌≡◌, ℕ, Bool, false, List, [], map, nat_eq, Result, Ok, Err, refl, ap, sym, ◌∙◌}
-use Rattle.std.specs.Prelude.{OnOk, OnErr}
+-- A site at its beginning.
+use Rattle.std.proofs.Common.{◌≡◌, ℕ, Bool, false, List, [], map, nat_eq, refl, ap, sym, ◌∙◌}
 use Rattle.std.proofs.lemmas.Nat.Bits.{bit_at-zero}
-use Rattle.std.proofs.Math.Logic.{∥∥₁_map}
 use Rattle.aw_term.specs.Names.{Ref}
 use Rattle.aw_grammar.specs.GrammarOf.{grammar_of}
 use Rattle.aw_store.specs.declared.facts.Facts.{Ghosts}
@@ -10,7 +8,7 @@ use Rattle.aw_subs.specs.declared.subs.Subs.{Subs}
 use Rattle.aw_subs.specs.Entries.{has_bit, is_asked, watchers}
 use Rattle.aw_msg.specs.declared.message.Message.{Message}
 use Rattle.aw_msg.specs.MessageView.{message_of}
-use Rattle.aw_law_sites.specs.Sites.{Site, empty_site}
+use Rattle.aw_law_sites.specs.Sites.{empty_site}
 use Rattle.aw_space.specs.declared.space.Space.{Space}
 use Rattle.aw_space.specs.SpaceView.{space_of}
 use Rattle.aw_site.specs.Shown.{Shows}
@@ -28,9 +26,3 @@ new_shown f space subs outbox loads role same nodes choices equations asked watc
   };
   sent = ap (map (message_of (grammar_of space.accepted.now.grammar))) (sym sent);
 }
-
--- some site is shown after an event as some was before it
-pub shown_on : {A E : Type 0} (r : Result A E) (Old New : Site → Type 0) (after : Site → Site) → OnOk r ((s : Site) → Old s → New (after s)) →
-    OnErr r ((s : Site) → Old s → New s) → ∥ ((s : Site) × Old s) ∥₁ → ∥ ((s : Site) × New s) ∥₁
-shown_on (Ok a) Old New after ok err h = ∥∥₁_map h (λ w. (after w.0, ok w.0 w.1))
-shown_on (Err e) Old New after ok err h = ∥∥₁_map h (λ w. (w.0, err w.0 w.1))

@@ -3,8 +3,6 @@ use Rattle.std.proofs.Common.{◌≡◌, ℕ, true, List, [], ◌∷◌, ◌++�
 use Rattle.std.specs.Prelude.{IfOk, OnOk}
 use Rattle.std.specs.Option.{is_none}
 use Rattle.std.proofs.lemmas.List.{append-nil}
-use Rattle.std.proofs.Math.Bool.{Bool-set}
-use Rattle.std.proofs.Math.Logic.{∥∥₁_elim}
 use Rattle.aw_term.specs.Names.{Node, Ref}
 use Rattle.aw_term.specs.Rules.{Grammar}
 use Rattle.aw_store.specs.Equations as P
@@ -114,16 +112,16 @@ is_clear : {A : Type 0} (o : Option A) → is_none o ≡ true → o ≡ None
 is_clear None e = refl
 is_clear (Some x) e = absurd cc
 
-module _ (g : Grammar) (role : ℕ) (Holds : Site → Type 0) (m : Q.Message) (held : ∥ ((s : Site) × Holds s) ∥₁) (role_is : (s : Site) → Holds s →
+module _ (g : Grammar) (role : ℕ) (Holds : Site → Type 0) (m : Q.Message) (held : (s : Site) × Holds s) (role_is : (s : Site) → Holds s →
     s.role ≡ role) (fresh : (s : Site) → Holds s → IsFresh g s m) where
   pub fresh_ok : message_ok g role m ≡ true
-  fresh_ok = ∥∥₁_elim held (Bool-set _ _) (λ w. ap (λ r. message_ok g r m) (sym (role_is w.0 w.1)) ∙ (fresh w.0 w.1).ok)
+  fresh_ok = ap (λ r. message_ok g r m) (sym (role_is held.0 held.1)) ∙ (fresh held.0 held.1).ok
 
   pub fresh_mine : is_mine g role m ≡ true
-  fresh_mine = ∥∥₁_elim held (Bool-set _ _) (λ w. ap (λ r. is_mine g r m) (sym (role_is w.0 w.1)) ∙ (fresh w.0 w.1).mine)
+  fresh_mine = ap (λ r. is_mine g r m) (sym (role_is held.0 held.1)) ∙ (fresh held.0 held.1).mine
 
   pub fresh_free : (sp : S.Space) (c : Option Call) (es : List P.Equation) → ((s : Site) → Holds s → clash_with c es sp ≡ clash s m.kind) → clash_with c es sp ≡ None
-  fresh_free sp c es same = is_clear (clash_with c es sp) (∥∥₁_elim held (Bool-set _ _) (λ w. ap is_none (same w.0 w.1 ∙ (fresh w.0 w.1).free)))
+  fresh_free sp c es same = is_clear (clash_with c es sp) (ap is_none (same held.0 held.1 ∙ (fresh held.0 held.1).free))
 
 -- a called node, and equations, may come
 pub call_fits : (g : Grammar) (role : ℕ) (m : Message) (n x : Node) (rs qs : List Ref) (load es : List Equation) → m.kind ≡ msg.Call n rs load →

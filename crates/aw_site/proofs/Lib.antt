@@ -17,6 +17,7 @@ pub mod Holding
 pub mod Unchanged
 pub mod Coming
 pub mod Beginning
+pub mod SeenParts
 pub mod SentNames
 pub mod MadeValid
 pub mod SentValid
@@ -25,4 +26,3 @@ pub mod ValidPlans
 pub mod Outboxes
 pub mod ValidInRange
 pub mod InRange
-pub mod Listing

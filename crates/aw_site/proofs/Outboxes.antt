@@ -1,8 +1,6 @@
 -- The messages of an outbox of the program stay sendable where a site answers a choice or a message.
 use Rattle.std.proofs.Common.{◌≡◌, Bool, true, List, ◌++◌, map, Result, Ok, Err, ap, sym, ◌∙◌, subst}
 use Rattle.std.specs.Prelude.{OnOk, OnErr}
-use Rattle.std.proofs.Math.Logic.{∥∥₁_elim}
-use Rattle.std.proofs.Math.Bool.{Bool-set}
 use Rattle.aw_term.specs.Rules.{Grammar}
 use Rattle.aw_term.specs.Choices.{Choice}
 use Rattle.aw_grammar.specs.declared.grammar.Grammar as program
@@ -26,6 +24,7 @@ use Rattle.aw_site.proofs.MadeValid.{MakesValid, makes_valid}
 use Rattle.aw_subs.specs.declared.subs.Subs.{Subs}
 use Rattle.aw_site.specs.Answers.{sent_by, sent_for}
 use Rattle.aw_site.specs.Sendable.{all_sendable}
+use Rattle.aw_site.specs.PartsSeen.{parts_seen}
 use Rattle.aw_site.specs.Shown.{Shows}
 use Rattle.aw_site.proofs.SentNames.{sendable_append}
 use Rattle.aw_site.proofs.SentValid.{choice_outbox, choice_valid, message_outbox, message_valid}
@@ -38,21 +37,15 @@ module _ {F : Type 0} (f : Ghosts F) (old new : Space F f) (subs subs' : Subs) (
   abbrev g : Grammar
   g = grammar_in f old
 
-  pub sendable_on : {A E : Type 0} (r : Result A E) (after : Site → Site) (sent : Site → List P.Message) → grammar_in f new ≡ g
-      → ((s : Site) → Shows f old subs outbox loads s → SendsWell g s (after s) (sent s))
-      → OnOk r ((s : Site) → Shows f old subs outbox loads s → Shows f new subs' outbox' loads (after s))
-      → OnErr r ((s : Site) → Shows f old subs outbox loads s → Shows f new subs' outbox' loads s)
-      → ∥ ((s : Site) × Shows f old subs outbox loads s) ∥₁
+  pub sendable_on : {A E : Type 0} (r : Result A E) (t : Site) (sent : List P.Message) → grammar_in f new ≡ g → SendsWell g (parts_seen f old subs outbox loads) t sent
+      → OnOk r (parts_seen f new subs' outbox' loads ≡ t) → OnErr r (parts_seen f new subs' outbox' loads ≡ parts_seen f old subs outbox loads)
       → all_sendable g (map (message_of g) outbox) ≡ true → all_sendable (grammar_in f new) (map (message_of (grammar_in f new)) outbox') ≡ true
-  sendable_on (Ok a) after sent same well ok err shown before =
-      ∥∥₁_elim shown (Bool-set _ _) (λ w.
-      let (added, fine) = well w.0 w.1 in
-      let now : map (message_of (grammar_in f new)) outbox' ≡ map (message_of g) outbox ++ sent w.0 = sym (ok w.0 w.1).sent ∙ added ∙ ap (λ ms. ms ++ sent w.0) w.1.sent in
-      (λ i. all_sendable (same i) (now i)) ∙ sendable_append g (map (message_of g) outbox) (sent w.0) before fine)
-  sendable_on (Err e) after sent same well ok err shown before =
-      ∥∥₁_elim shown (Bool-set _ _) (λ w.
-      let now : map (message_of (grammar_in f new)) outbox' ≡ map (message_of g) outbox = sym (err w.0 w.1).sent ∙ w.1.sent in
-      (λ i. all_sendable (same i) (now i)) ∙ before)
+  sendable_on (Ok a) t sent same well ok err before =
+      let now : map (message_of (grammar_in f new)) outbox' ≡ map (message_of g) outbox ++ sent = ap (λ (s : Site). s.outbox) ok ∙ well.0 in
+      (λ i. all_sendable (same i) (now i)) ∙ sendable_append g (map (message_of g) outbox) sent before well.1
+  sendable_on (Err e) t sent same well ok err before =
+      let now : map (message_of (grammar_in f new)) outbox' ≡ map (message_of g) outbox = ap (λ (s : Site). s.outbox) err in
+      (λ i. all_sendable (same i) (now i)) ∙ before
 
 module _ {F : Type 0} (f : Ghosts F) (old : Space F f) (subs : Subs) (outbox : List Message) (loads : Bool) (s : Site) (shows : Shows f old subs outbox loads s) where
   abbrev gr : program.Grammar

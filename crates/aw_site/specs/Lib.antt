@@ -5,6 +5,7 @@ pub mod Ordered
 pub mod Wanting
 pub mod Plans
 pub mod Shown
+pub mod PartsSeen
 pub mod Doing
 pub mod Answers
 pub mod Chosen

@@ -1,17 +1,24 @@
 -- What is seen of a site of the program.
-use Rattle.std.specs.Prelude.{ℕ, List}
+use Rattle.std.specs.Prelude.{◌≡◌, ℕ, List}
 use Rattle.aw_term.specs.Rules.{Grammar}
+use Rattle.aw_term.specs.Artifacts.{Item}
 use Rattle.aw_term.specs.Held.{Held}
-use Rattle.aw_term.specs.Choices.{Choice}
+use Rattle.aw_choice.specs.ChoiceView.{choice_of}
+use Rattle.aw_choice.specs.declared.choice.Choice.{Choice}
 use Rattle.aw_grammar.specs.GrammarOf.{grammar_of}
+use Rattle.aw_grammar.specs.declared.grammar.Grammar as program
 use Rattle.aw_store.specs.Equations.{Map}
 use Rattle.aw_store.specs.declared.facts.Facts.{Ghosts}
-use Rattle.aw_law_sites.specs.Choosing.{choose}
-use Rattle.aw_law_sites.specs.SiteEvents.{after_choice}
+use Rattle.aw_apply.specs.Messages.{Received}
+use Rattle.aw_msg.specs.MessageView.{message_of}
+use Rattle.aw_msg.specs.declared.message.Message.{Message}
+use Rattle.aw_law_sites.specs.Choosing.{Chosen, choose}
+use Rattle.aw_law_sites.specs.Reacting.{receive}
 use Rattle.aw_law_sites.specs.Sites as P
+use Rattle.aw_law_sites.specs.Worklists.{site_worklist}
 use Rattle.aw_space.specs.Seen.{space_seen}
+use Rattle.aw_site.specs.PartsSeen.{parts_seen}
 use Rattle.aw_site.specs.declared.site.Site.{Site}
-use Rattle.aw_site.specs.Shown.{Shows}
 
 -- the grammar of its space
 abbrev pub grammar_in : {F : Type 0} (f : Ghosts F) → Site F f → Grammar
@@ -29,10 +36,22 @@ map_in f s = f.map s.space.facts
 abbrev pub nodes_in : {F : Type 0} (f : Ghosts F) → Site F f → List Held
 nodes_in f s = (space_seen f s.space).held
 
+-- the plain site that it is
+abbrev pub site_seen : {F : Type 0} (f : Ghosts F) → Site F f → P.Site
+site_seen f s = parts_seen f s.space s.subs s.outbox.items s.loads
+
 -- the plain site is shown
 abbrev pub IsShown : {F : Type 0} (f : Ghosts F) → Site F f → P.Site → Type 0
-IsShown f s p = Shows f s.space s.subs s.outbox.items s.loads p
+IsShown f s p = site_seen f s ≡ p
 
--- whatever plain site is shown before, the one behind this choice is shown after
-abbrev pub ShowsChoice : {F : Type 0} (f : Ghosts F) → Grammar → Choice → Site F f → Site F f → Type 0
-ShowsChoice f g c old new = (s : P.Site) → IsShown f old s → IsShown f new (after_choice s (choose g s c))
+-- what comes of a choice at it
+abbrev pub choice_at : {F : Type 0} (f : Ghosts F) → program.Grammar → Site F f → Choice → Chosen
+choice_at f d s c = choose (grammar_of d) (site_seen f s) (choice_of c)
+
+-- and of a message
+abbrev pub message_at : {F : Type 0} (f : Ghosts F) → program.Grammar → Site F f → Message → Received P.Reaction
+message_at f d s m = receive (grammar_of d) (site_seen f s) (message_of (grammar_of d) m)
+
+-- its worklist
+abbrev pub worklist_at : {F : Type 0} (f : Ghosts F) → program.Grammar → Site F f → List Item
+worklist_at f d s = site_worklist (grammar_of d) (site_seen f s).equations (site_seen f s).held

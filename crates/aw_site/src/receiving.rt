@@ -278,7 +278,6 @@ fn react<'g, F: Facts>(
     requires grammar { g.now.grammar ≡ space.old.accepted.now.grammar }
     requires carried { (g : T.Grammar) → list_map equation_of es ≡ carried (kind_of g m.now.kind) }
     requires fresh { (s : P.Site) → HoldsAs ⟦<F as Facts>⟧ space.old subs.old loads s → IsFresh (grammar_of g.now.grammar) s (message_of (grammar_of g.now.grammar) m.now) }
-    requires holds { ∥ ((s : P.Site) × HoldsAs ⟦<F as Facts>⟧ space.old subs.old loads s) ∥₁ }
     ensures grammar { space.new.accepted.now.grammar ≡ space.old.accepted.now.grammar }
     ensures role { space.new.role ≡ space.old.role }
     ensures count { IfOk result (λ n. (s : P.Site) → Shows ⟦<F as Facts>⟧ space.old subs.old outbox.old.items loads s →
@@ -329,7 +328,6 @@ pub fn receive<'g, F: Facts>(
     copy: &mut Vec<Message>,
 ) -> Result<Received, AllocError>
     requires grammar { g.now.grammar ≡ space.old.accepted.now.grammar }
-    requires holds { ∥ ((s : P.Site) × HoldsAs ⟦<F as Facts>⟧ space.old subs.old loads s) ∥₁ }
     ensures grammar { space.new.accepted.now.grammar ≡ space.old.accepted.now.grammar }
     ensures role { space.new.role ≡ space.old.role }
     ensures answer { IfOk result (λ r. (s : P.Site) → Shows ⟦<F as Facts>⟧ space.old subs.old outbox.old.items loads s →

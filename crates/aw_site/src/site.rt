@@ -4,12 +4,10 @@ ghost use Rattle.aw_choice.specs.ChoiceView.{choice_of, answer_of};
 ghost use Rattle.aw_grammar.specs.GrammarOf.{grammar_of};
 ghost use Rattle.aw_base.specs.ChoiceFits.{choice_ok};
 ghost use Rattle.aw_msg.specs.MessageView.{message_of};
-ghost use Rattle.aw_law_sites.specs.Sites as P;
 ghost use Rattle.aw_law_sites.specs.Worlds.{node_of};
 ghost use Rattle.aw_space.specs.Keeping.{KeepsFacts, KeepsNodes, KeepsNodesBut};
 ghost use Rattle.aw_space.specs.Spaces.{is_home};
 ghost use Rattle.aw_site.specs.Sendable.{all_sendable, all_short};
-ghost use Rattle.aw_site.specs.Shown.{Shows};
 
 use crate::received::Received;
 use crate::{choosing, receiving, uncounted};
@@ -28,29 +26,26 @@ pub struct Site<'g, F: Facts> {
     pub(crate) subs: Subs,
     pub(crate) outbox: Vec<Message>,
     pub(crate) loads: bool,
-    pub ghost shown: { ∥ ((s : P.Site) × Shows ⟦<F as Facts>⟧ space subs outbox.items loads s) ∥₁ },
     pub ghost sendable: { all_sendable (grammar_of space.accepted.now.grammar) (list_map (message_of (grammar_of space.accepted.now.grammar)) outbox.items) ≡ true },
     pub ghost short: { all_short outbox.items ≡ true },
 }
 
 impl<'g, F: Facts> Site<'g, F> {
-    ghost use Rattle.aw_law_sites.specs.Choosing.{answer_to, choose as plain_choose};
-    ghost use Rattle.aw_law_sites.specs.Reacting.{receive as plain_receive};
-    ghost use Rattle.aw_law_sites.specs.SiteEvents.{after_message};
+    ghost use Rattle.aw_law_sites.specs.Choosing.{answer_to};
+    ghost use Rattle.aw_law_sites.specs.SiteEvents.{after_choice, after_message};
     ghost use Rattle.aw_choice.specs.ChoiceView.{item_of};
     ghost use Rattle.aw_law_sites.specs.Sites.{empty_site};
-    ghost use Rattle.aw_law_sites.specs.Worklists.{site_worklist};
     ghost use Rattle.aw_msg.specs.Messages.{MessageInRange};
     ghost use Rattle.aw_term.specs.WellFormed.{Each};
     ghost use Rattle.aw_site.specs.Answers.{sent_by, sent_for, IsReceived};
-    ghost use Rattle.aw_site.specs.Seen.{role_in, map_in, nodes_in, IsShown, ShowsChoice};
+    ghost use Rattle.aw_site.specs.Seen.{choice_at, map_in, message_at, nodes_in, role_in, site_seen, worklist_at};
 
     /// A site of a role that holds nothing, over a store without equations. Its messages carry loads, or none does.
     pub fn new(alloc: Global, g: &'g Accepted, role: u16, facts: F, loads: bool) -> Site<'g, F>
         requires { F.map facts ≡ [] }
         ensures grammar { result.space.accepted.now.grammar ≡ g.now.grammar }
         ensures role { role_in ⟦<F as Facts>⟧ result ≡ role }
-        ensures site { IsShown ⟦<F as Facts>⟧ result (empty_site loads role) }
+        ensures site { site_seen ⟦<F as Facts>⟧ result ≡ empty_site loads role }
     {
         Site {
             space: Space::new(alloc, g, role, facts),
@@ -92,7 +87,7 @@ impl<'g, F: Facts> Site<'g, F> {
     /// The worklist: each open node in order with each rule of its sort, and how it stands.
     pub fn list(&self, g: &Accepted) -> Result<Worklist, AllocError>
         requires { g.now.grammar ≡ self.now.space.accepted.now.grammar }
-        ensures { IfOk result (λ items. (s : P.Site) → IsShown ⟦<F as Facts>⟧ self.now s → list_map item_of items ≡ site_worklist (grammar_of g.now.grammar) s.equations s.held) }
+        ensures { IfOk result (λ items. list_map item_of items ≡ worklist_at ⟦<F as Facts>⟧ g.now.grammar self.now) }
     {
         uncounted::list(&self.space, g)
     }
@@ -110,12 +105,13 @@ impl<'g, F: Facts> Site<'g, F> {
         requires here { is_home (grammar_of g.now.grammar) (role_in ⟦<F as Facts>⟧ self.old) (node_of (choice_of choice.now)) ≡ true }
         ensures grammar { self.new.space.accepted.now.grammar ≡ self.old.space.accepted.now.grammar }
         ensures role { role_in ⟦<F as Facts>⟧ self.new ≡ role_in ⟦<F as Facts>⟧ self.old }
-        ensures answer { IfOk result (λ r. (s : P.Site) → IsShown ⟦<F as Facts>⟧ self.old s → answer_of r.0 ≡ answer_to (plain_choose (grammar_of g.now.grammar) s (choice_of choice.now))) }
-        ensures count { IfOk result (λ r. (s : P.Site) → IsShown ⟦<F as Facts>⟧ self.old s → r.1 ≡ length (sent_by (plain_choose (grammar_of g.now.grammar) s (choice_of choice.now)))) }
-        ensures site { OnOk result (ShowsChoice ⟦<F as Facts>⟧ (grammar_of g.now.grammar) (choice_of choice.now) self.old self.new) }
-        ensures copy { OnOk result ((s : P.Site) → IsShown ⟦<F as Facts>⟧ self.old s → list_map (message_of (grammar_of g.now.grammar)) copy.new
-            ≡ list_map (message_of (grammar_of g.now.grammar)) copy.old ++ sent_by (plain_choose (grammar_of g.now.grammar) s (choice_of choice.now))) }
-        ensures err { OnErr result ((s : P.Site) → IsShown ⟦<F as Facts>⟧ self.old s → IsShown ⟦<F as Facts>⟧ self.new s) }
+        ensures answer { IfOk result (λ r. answer_of r.0 ≡ answer_to (choice_at ⟦<F as Facts>⟧ g.now.grammar self.old choice.now)) }
+        ensures count { IfOk result (λ r. r.1 ≡ length (sent_by (choice_at ⟦<F as Facts>⟧ g.now.grammar self.old choice.now))) }
+        ensures site { OnOk result (site_seen ⟦<F as Facts>⟧ self.new
+            ≡ after_choice (site_seen ⟦<F as Facts>⟧ self.old) (choice_at ⟦<F as Facts>⟧ g.now.grammar self.old choice.now)) }
+        ensures copy { OnOk result (list_map (message_of (grammar_of g.now.grammar)) copy.new
+            ≡ list_map (message_of (grammar_of g.now.grammar)) copy.old ++ sent_by (choice_at ⟦<F as Facts>⟧ g.now.grammar self.old choice.now)) }
+        ensures err { OnErr result (site_seen ⟦<F as Facts>⟧ self.new ≡ site_seen ⟦<F as Facts>⟧ self.old) }
         ensures err_copy { OnErr result (copy.new ≡ copy.old) }
         ensures facts { KeepsFacts (map_in ⟦<F as Facts>⟧ self.old) (map_in ⟦<F as Facts>⟧ self.new) }
         ensures nodes { KeepsNodesBut (node_of (choice_of choice.now)) (nodes_in ⟦<F as Facts>⟧ self.old) (nodes_in ⟦<F as Facts>⟧ self.new) }
@@ -142,10 +138,11 @@ impl<'g, F: Facts> Site<'g, F> {
         requires here { is_home (grammar_of g.now.grammar) (role_in ⟦<F as Facts>⟧ self.old) (node_of (choice_of choice.now)) ≡ true }
         ensures grammar { self.new.space.accepted.now.grammar ≡ self.old.space.accepted.now.grammar }
         ensures role { role_in ⟦<F as Facts>⟧ self.new ≡ role_in ⟦<F as Facts>⟧ self.old }
-        ensures answer { IfOk result (λ r. (s : P.Site) → IsShown ⟦<F as Facts>⟧ self.old s → answer_of r.0 ≡ answer_to (plain_choose (grammar_of g.now.grammar) s (choice_of choice.now))) }
-        ensures count { IfOk result (λ r. (s : P.Site) → IsShown ⟦<F as Facts>⟧ self.old s → r.1 ≡ length (sent_by (plain_choose (grammar_of g.now.grammar) s (choice_of choice.now)))) }
-        ensures site { OnOk result (ShowsChoice ⟦<F as Facts>⟧ (grammar_of g.now.grammar) (choice_of choice.now) self.old self.new) }
-        ensures err { OnErr result ((s : P.Site) → IsShown ⟦<F as Facts>⟧ self.old s → IsShown ⟦<F as Facts>⟧ self.new s) }
+        ensures answer { IfOk result (λ r. answer_of r.0 ≡ answer_to (choice_at ⟦<F as Facts>⟧ g.now.grammar self.old choice.now)) }
+        ensures count { IfOk result (λ r. r.1 ≡ length (sent_by (choice_at ⟦<F as Facts>⟧ g.now.grammar self.old choice.now))) }
+        ensures site { OnOk result (site_seen ⟦<F as Facts>⟧ self.new
+            ≡ after_choice (site_seen ⟦<F as Facts>⟧ self.old) (choice_at ⟦<F as Facts>⟧ g.now.grammar self.old choice.now)) }
+        ensures err { OnErr result (site_seen ⟦<F as Facts>⟧ self.new ≡ site_seen ⟦<F as Facts>⟧ self.old) }
         ensures facts { KeepsFacts (map_in ⟦<F as Facts>⟧ self.old) (map_in ⟦<F as Facts>⟧ self.new) }
         ensures nodes { KeepsNodesBut (node_of (choice_of choice.now)) (nodes_in ⟦<F as Facts>⟧ self.old) (nodes_in ⟦<F as Facts>⟧ self.new) }
     {
@@ -164,12 +161,12 @@ impl<'g, F: Facts> Site<'g, F> {
         requires { g.now.grammar ≡ self.old.space.accepted.now.grammar }
         ensures grammar { self.new.space.accepted.now.grammar ≡ self.old.space.accepted.now.grammar }
         ensures role { role_in ⟦<F as Facts>⟧ self.new ≡ role_in ⟦<F as Facts>⟧ self.old }
-        ensures answer { IfOk result (λ r. (s : P.Site) → IsShown ⟦<F as Facts>⟧ self.old s → IsReceived r (plain_receive (grammar_of g.now.grammar) s (message_of (grammar_of g.now.grammar) m.now))) }
-        ensures site { OnOk result ((s : P.Site) → IsShown ⟦<F as Facts>⟧ self.old s →
-            IsShown ⟦<F as Facts>⟧ self.new (after_message s (plain_receive (grammar_of g.now.grammar) s (message_of (grammar_of g.now.grammar) m.now)))) }
-        ensures copy { OnOk result ((s : P.Site) → IsShown ⟦<F as Facts>⟧ self.old s → list_map (message_of (grammar_of g.now.grammar)) copy.new
-            ≡ list_map (message_of (grammar_of g.now.grammar)) copy.old ++ sent_for (plain_receive (grammar_of g.now.grammar) s (message_of (grammar_of g.now.grammar) m.now))) }
-        ensures err { OnErr result ((s : P.Site) → IsShown ⟦<F as Facts>⟧ self.old s → IsShown ⟦<F as Facts>⟧ self.new s) }
+        ensures answer { IfOk result (λ r. IsReceived r (message_at ⟦<F as Facts>⟧ g.now.grammar self.old m.now)) }
+        ensures site { OnOk result (site_seen ⟦<F as Facts>⟧ self.new
+            ≡ after_message (site_seen ⟦<F as Facts>⟧ self.old) (message_at ⟦<F as Facts>⟧ g.now.grammar self.old m.now)) }
+        ensures copy { OnOk result (list_map (message_of (grammar_of g.now.grammar)) copy.new
+            ≡ list_map (message_of (grammar_of g.now.grammar)) copy.old ++ sent_for (message_at ⟦<F as Facts>⟧ g.now.grammar self.old m.now)) }
+        ensures err { OnErr result (site_seen ⟦<F as Facts>⟧ self.new ≡ site_seen ⟦<F as Facts>⟧ self.old) }
         ensures err_copy { OnErr result (copy.new ≡ copy.old) }
         ensures facts { KeepsFacts (map_in ⟦<F as Facts>⟧ self.old) (map_in ⟦<F as Facts>⟧ self.new) }
         ensures nodes { KeepsNodes (nodes_in ⟦<F as Facts>⟧ self.old) (nodes_in ⟦<F as Facts>⟧ self.new) }
@@ -195,10 +192,10 @@ impl<'g, F: Facts> Site<'g, F> {
         requires { g.now.grammar ≡ self.old.space.accepted.now.grammar }
         ensures grammar { self.new.space.accepted.now.grammar ≡ self.old.space.accepted.now.grammar }
         ensures role { role_in ⟦<F as Facts>⟧ self.new ≡ role_in ⟦<F as Facts>⟧ self.old }
-        ensures answer { IfOk result (λ r. (s : P.Site) → IsShown ⟦<F as Facts>⟧ self.old s → IsReceived r (plain_receive (grammar_of g.now.grammar) s (message_of (grammar_of g.now.grammar) m.now))) }
-        ensures site { OnOk result ((s : P.Site) → IsShown ⟦<F as Facts>⟧ self.old s →
-            IsShown ⟦<F as Facts>⟧ self.new (after_message s (plain_receive (grammar_of g.now.grammar) s (message_of (grammar_of g.now.grammar) m.now)))) }
-        ensures err { OnErr result ((s : P.Site) → IsShown ⟦<F as Facts>⟧ self.old s → IsShown ⟦<F as Facts>⟧ self.new s) }
+        ensures answer { IfOk result (λ r. IsReceived r (message_at ⟦<F as Facts>⟧ g.now.grammar self.old m.now)) }
+        ensures site { OnOk result (site_seen ⟦<F as Facts>⟧ self.new
+            ≡ after_message (site_seen ⟦<F as Facts>⟧ self.old) (message_at ⟦<F as Facts>⟧ g.now.grammar self.old m.now)) }
+        ensures err { OnErr result (site_seen ⟦<F as Facts>⟧ self.new ≡ site_seen ⟦<F as Facts>⟧ self.old) }
         ensures facts { KeepsFacts (map_in ⟦<F as Facts>⟧ self.old) (map_in ⟦<F as Facts>⟧ self.new) }
         ensures nodes { KeepsNodes (nodes_in ⟦<F as Facts>⟧ self.old) (nodes_in ⟦<F as Facts>⟧ self.new) }
     {

@@ -44,7 +44,7 @@ module _ {W : Type 0} (f : Ghosts W) (w : World W f) where
   config_there = there (undivided (plain_of w) [] (map choice_of w.taken.items)) refl
 
   same_config : (v : V.World) → Shows f w v → (c : Config) → undivided (plain_of w) [] (map choice_of w.taken.items) ≡ Some c → config_of (plain_of w) v ≡ c
-  same_config v S c e = ap (λ cs. or_same [] (undivided (plain_of w) [] cs)) S.taken ∙ ap (or_same []) e
+  same_config v S c e = ap (λ (u : V.World). or_same [] (undivided (plain_of w) [] u.taken)) (sym S) ∙ ap (or_same []) e
 
   module _ (t : Tally) (v : V.World) (S : Shows f w v) where
     -- everything is counted
@@ -55,7 +55,7 @@ module _ {W : Type 0} (f : Ghosts W) (w : World W f) where
         let (c, e) = config_there in
         let (ea, eb, within) = lines c e in
         let k = sym (same_config v S c e) in
-        let sent : m ≡ length v.messages = em ∙ sym (length-map w.messages (message_of (plain_of w))) ∙ ap length (sym S.messages) in
+        let sent : m ≡ length v.messages = em ∙ sym (length-map w.messages (message_of (plain_of w))) ∙ ap (λ (u : V.World). length u.messages) S in
         let rows : a ≡ length (config_of (plain_of w) v) = ea ∙ ap length k in
         let bytes : length (artifact_text (named_by w) c) ≡ length (artifact_text (named_by w) (config_of (plain_of w) v)) = ap (λ x. length (artifact_text (named_by w) x)) k in (
           es ∙ (λ i. record { starts = t.starts; choices = t.choices; taken = t.taken; messages = sent i; repeats = t.repeats; artifacts = rows i; bytes = (eb ∙ bytes) i }),

@@ -1,17 +1,7 @@
--- What a site does by its own grammar, it does by the same grammar given anew.
-use Rattle.std.proofs.Common.{◌≡◌, ◌≤◌, true, List, ◌++◌, map, length, ap, ◌∙◌, arith}
-use Rattle.std.specs.Prelude.{Result, Ok, Err, IfOk, OnOk, OnErr}
-use Rattle.std.proofs.Math.Logic.{∥∥₁_elim}
+-- A list of messages that is added to does not get shorter.
+use Rattle.std.proofs.Common.{◌≡◌, ◌≤◌, List, ◌++◌, map, length, ap, ◌∙◌, arith}
+use Rattle.std.specs.Prelude.{Result, Ok, Err, OnOk, OnErr}
 use Rattle.std.proofs.lemmas.List.{length-append, length-map}
-use Rattle.std.specs.Coded.{le_prop}
-use Rattle.aw_accept.specs.declared.accepted.Accepted.{Accepted}
-use Rattle.aw_grammar.specs.GrammarOf.{grammar_of}
-use Rattle.aw_term.specs.SameGrammar.{same_grammar}
-use Rattle.aw_term.proofs.GrammarTests.{grammars_are_one}
-
--- the grammar that is borrowed, that of the site, and the given one
-pub own_grammar : (lent own given : Accepted) → lent ≡ own → same_grammar (grammar_of own.grammar) (grammar_of given.grammar) ≡ true → grammar_of lent.grammar ≡ grammar_of given.grammar
-own_grammar lent own given e same = ap (λ a. grammar_of a.grammar) e ∙ grammars_are_one _ _ same
 
 -- a list to which is added does not get shorter
 longer : {A B : Type 0} (f : A → B) (old new : List A) (more : List B) → map f new ≡ map f old ++ more → length old ≤ length new
@@ -20,12 +10,6 @@ longer f old new more e =
     omega (arith, l, length-map old f, length-map new f)
 
 -- nor does it where an error adds nothing
-pub grows_either : {S A B X E : Type 0} {P : S → Type 0} (f : A → B) (more : S → List B) (r : Result X E) (old new : List A) → ∥ ((s : S) × P s) ∥₁
-    → OnOk r ((s : S) → P s → map f new ≡ map f old ++ more s) → OnErr r (new ≡ old) → length old ≤ length new
-grows_either f more (Ok x) old new shown added kept = ∥∥₁_elim shown le_prop (λ s. longer f old new (more s.0) (added s.0 s.1))
-grows_either f more (Err e) old new shown added kept = let l = ap length kept in omega (arith, l)
-
--- what holds of a value, made into what it leads to
-pub if_ok : {A E : Type 0} {P Q : A → Type 0} (r : Result A E) → IfOk r P → ((x : A) → P x → Q x) → IfOk r Q
-if_ok (Ok x) p f = f x p
-if_ok (Err e) p f = tt
+pub grows_either : {A B X E : Type 0} (f : A → B) (more : List B) (r : Result X E) (old new : List A) → OnOk r (map f new ≡ map f old ++ more) → OnErr r (new ≡ old) → length old ≤ length new
+grows_either f more (Ok x) old new added kept = longer f old new more added
+grows_either f more (Err e) old new added kept = let l = ap length kept in omega (arith, l)

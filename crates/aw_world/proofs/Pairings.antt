@@ -1,5 +1,5 @@
--- Two lists whose members belong together, place by place.
-use Rattle.std.proofs.Common.{◌≡◌, ℕ, zero, suc, ◌<◌, arith, List, [], ◌∷◌, length, get_or, ap, sym, ◌∙◌, refl, subst, inl, inr}
+-- What is seen of workspaces, place by place.
+use Rattle.std.proofs.Common.{◌≡◌, ℕ, zero, suc, ◌<◌, List, [], ◌∷◌, length, get_or, map, ap, sym, ◌∙◌, refl, inl, inr}
 use Rattle.std.specs.Prelude.{slice_set, slice_get, Some, ◌⊎◌}
 use Rattle.std.proofs.lemmas.Option.{same_Some, slice_get_read}
 use Rattle.aw_term.specs.Rules.{get}
@@ -11,34 +11,36 @@ use Rattle.aw_term.specs.SameGrammar.{same_grammar}
 use Rattle.aw_law_worlds.proofs.Places.{length-set as length_set}
 use Rattle.aw_world.specs.Seen.{ArePlaced}
 
-module _ {A B : Type 0} (R : A → B → Type 0) where
-  pub pairs_at : (d : B) (xs : List A) (ys : List B) (i : ℕ) (x : A) → Pairs R xs ys → i < length xs → x ≡ get_or xs i x → R x (get d ys i)
-  pairs_at d [] ys i x p l e = absurd (omega (arith, l))
-  pairs_at d (a ∷ xs) [] i x p l e = elim p [ ]
-  pairs_at d (a ∷ xs) (b ∷ ys) zero x p l e = subst (λ z. R z b) (sym e) p.0
-  pairs_at d (a ∷ xs) (b ∷ ys) (suc i) x p l e = pairs_at d xs ys i x p.1 (omega (arith, l)) e
-
-  pub pairs_put : (xs : List A) (ys : List B) (i : ℕ) (x : A) (y : B) → Pairs R xs ys → R x y → Pairs R (slice_set xs i x) (slice_set ys i y)
-  pairs_put [] [] i x y p r = p
-  pairs_put [] (b ∷ ys) i x y p r = elim p [ ]
-  pairs_put (a ∷ xs) [] i x y p r = elim p [ ]
-  pairs_put (a ∷ xs) (b ∷ ys) zero x y p r = (r, p.1)
-  pairs_put (a ∷ xs) (b ∷ ys) (suc i) x y p r = (p.0, pairs_put xs ys i x y p.1 r)
-
-  pub pairs_length : (xs : List A) (ys : List B) → Pairs R xs ys → length xs ≡ length ys
-  pairs_length [] [] p = refl
-  pairs_length [] (b ∷ ys) p = elim p [ ]
-  pairs_length (a ∷ xs) [] p = elim p [ ]
-  pairs_length (a ∷ xs) (b ∷ ys) p = ap suc (pairs_length xs ys p.1)
+-- lists whose members belong together are as long
+pub pairs_length : {A B : Type 0} (R : A → B → Type 0) (xs : List A) (ys : List B) → Pairs R xs ys → length xs ≡ length ys
+pairs_length R [] [] p = refl
+pairs_length R [] (b ∷ ys) p = elim p [ ]
+pairs_length R (a ∷ xs) [] p = elim p [ ]
+pairs_length R (a ∷ xs) (b ∷ ys) p = ap suc (pairs_length R xs ys p.1)
 
 pub set_same : {B : Type 0} (d : B) (ys : List B) (i : ℕ) → slice_set ys i (get d ys i) ≡ ys
 set_same d [] i = refl
 set_same d (y ∷ ys) zero = refl
 set_same d (y ∷ ys) (suc i) = ap (λ z. y ∷ z) (set_same d ys i)
 
--- a workspace that changed beside those that stay
-pub pairs_keep : {A B : Type 0} (R : A → B → Type 0) (d : B) (xs : List A) (ys : List B) (i : ℕ) (x : A) → Pairs R xs ys → R x (get d ys i) → Pairs R (slice_set xs i x) ys
-pairs_keep R d xs ys i x p r = subst (Pairs R (slice_set xs i x)) (set_same d ys i) (pairs_put R xs ys i x (get d ys i) p r)
+-- what is seen of each workspace
+module _ {A B : Type 0} (f : A → B) where
+  pub map_got : (d : B) (xs : List A) (i : ℕ) (x : A) → slice_get xs i ≡ Some x → get d (map f xs) i ≡ f x
+  map_got d [] i x e = absurd cc
+  map_got d (a ∷ xs) zero x e = ap f (same_Some a x e)
+  map_got d (a ∷ xs) (suc i) x e = map_got d xs i x e
+
+  pub map_at : (d : B) (xs : List A) (i : ℕ) (x : A) → i < length xs → x ≡ get_or xs i x → get d (map f xs) i ≡ f x
+  map_at d xs i x l e = map_got d xs i x (slice_get_read xs (length xs) i x refl l e)
+
+  pub map_set : (xs : List A) (i : ℕ) (x : A) → map f (slice_set xs i x) ≡ slice_set (map f xs) i (f x)
+  map_set [] i x = refl
+  map_set (a ∷ xs) zero x = refl
+  map_set (a ∷ xs) (suc i) x = ap (λ ys. f a ∷ ys) (map_set xs i x)
+
+  -- a workspace that changed, but not what is seen of it
+  pub map_keep : (d : B) (xs : List A) (i : ℕ) (old new : A) → i < length xs → old ≡ get_or xs i old → f new ≡ f old → map f (slice_set xs i new) ≡ map f xs
+  map_keep d xs i old new l e s = map_set xs i new ∙ ap (slice_set (map f xs) i) (s ∙ sym (map_at d xs i old l e)) ∙ set_same d (map f xs) i
 
 get_set_cases : {A : Type 0} (xs : List A) (i j : ℕ) (x y : A) → slice_get (slice_set xs i x) j ≡ Some y → ((j ≡ i) × (x ≡ y)) ⊎ (slice_get xs j ≡ Some y)
 get_set_cases [] i j x y e = inr e

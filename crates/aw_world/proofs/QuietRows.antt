@@ -27,7 +27,7 @@ same_choices cs = (λ c m. m, λ c m. m)
 
 module _ {W : Type 0} (f : Ghosts W) (w : World W f) (quiet : first_open w ≡ None) where
   is_quiet : (v : V.World) → Shows f w v → V.IsQuiet v
-  is_quiet v S = ap (V.first_false 0) S.delivered ∙ quiet
+  is_quiet v S = ap (λ (u : V.World). V.first_false 0 u.delivered) (sym S) ∙ quiet
 
   -- the rows that are read are the artifacts
   pub prints_quiet : (old new : Bounded) (r : Result Unit PrintFault) → ((v : V.World) → Shows f w v → PrintsRows w.accepted.now.grammar v old new
@@ -38,7 +38,7 @@ module _ {W : Type 0} (f : Ghosts W) (w : World W f) (quiet : first_open w ≡ N
       let prop = prints_prop (artifact_text (words_of d) c) old new r in
       ∥∥₁_elim d.well_formed prop (λ wf. ∥∥₁_elim w.accepted.now.sound prop (λ so. ∥∥₁_elim w.reached prop (λ x.
       let v = world_after p w.loads x.0 in
-      let u : undivided p [] v.taken ≡ Some c = ap (undivided p []) x.2.taken ∙ e in
+      let u : undivided p [] v.taken ≡ Some c = ap (λ (u : V.World). undivided p [] u.taken) (sym x.2) ∙ e in
       let (rows, read, same) = (artifacts_law (words_of d) p (wf, so) w.loads x.0 x.1 (is_quiet v x.2) v.taken (same_choices v.taken) c u).0 in
       subst (λ t. Prints t old new r) (sym same) (prints v x.2 rows read))))
 
@@ -50,6 +50,6 @@ module _ {W : Type 0} (f : Ghosts W) (w : World W f) (quiet : first_open w ≡ N
       let p = grammar_of d in
       ∥∥₁_elim d.well_formed (ℕ_set _ _) (λ wf. ∥∥₁_elim w.accepted.now.sound (ℕ_set _ _) (λ so. ∥∥₁_elim w.reached (ℕ_set _ _) (λ x.
       let v = world_after p w.loads x.0 in
-      let u : undivided p [] v.taken ≡ Some c = ap (undivided p []) x.2.taken ∙ e in
+      let u : undivided p [] v.taken ≡ Some c = ap (λ (u : V.World). undivided p [] u.taken) (sym x.2) ∙ e in
       let (c', e', i, h) = headline (words_of d) p (wf, so) w.loads x.0 x.1 in
       count v x.2 ∙ pairs_length _ (gather v.sites) c (h (is_quiet v x.2) v.taken (same_choices v.taken) c u).agree)))

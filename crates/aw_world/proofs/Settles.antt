@@ -28,7 +28,7 @@ module _ {W : Type 0} (f : Ghosts W) (w : World W f) where
   at_reached m n go = ∥∥₁_elim w.accepted.now.grammar.well_formed le_prop (λ formed. ∥∥₁_elim w.accepted.now.sound le_prop (λ sound. ∥∥₁_elim w.reached le_prop (λ r. go r.0 r.1 r.2 (formed, sound))))
 
   pub counted : (v : V.World) → Shows f w v → count_set v.delivered ≡ count_set w.marks.delivered.items
-  counted v S = ap count_set S.delivered ∙ marks_count w.messages w.marks.delivered.items w.marked
+  counted v S = ap (λ (u : V.World). count_set u.delivered) (sym S) ∙ marks_count w.messages w.marks.delivered.items w.marked
 
   -- the choices taken bound what is delivered
   pub bounded : count_set w.marks.delivered.items ≤ bound_of (grammar_of w.accepted.now.grammar) (map choice_of w.taken.items)
@@ -36,7 +36,7 @@ module _ {W : Type 0} (f : Ghosts W) (w : World W f) where
       let p = grammar_of w.accepted.now.grammar in
       let b = count_bounded (words_of w.accepted.now.grammar) p accepted w.loads es may in
       let c = counted (world_after p w.loads es) S in
-      let t = ap (bound_of p) S.taken in
+      let t = ap (λ (u : V.World). bound_of p u.taken) (sym S) in
       omega (arith, b, c, t))
 
 -- a message that was not delivered leaves room for one delivery more
@@ -45,15 +45,15 @@ pub room_left : {W : Type 0} (f : Ghosts W) (w : World W f) (k : ℕ) → V.firs
 room_left f w k first = at_reached f w _ _ (λ es may S accepted.
     let p = grammar_of w.accepted.now.grammar in
     let v = world_after p w.loads es in
-    let n = nearer (words_of w.accepted.now.grammar) p accepted w.loads es may k (ap (V.first_false 0) S.delivered ∙ first) in
+    let n = nearer (words_of w.accepted.now.grammar) p accepted w.loads es may k (ap (λ (u : V.World). V.first_false 0 u.delivered) (sym S) ∙ first) in
     let c = counted f w v S in
-    let t = ap (bound_of p) S.taken in
+    let t = ap (λ (u : V.World). bound_of p u.taken) (sym S) in
     omega (arith, n.1, c, t))
 
 module _ {W : Type 0} (f : Ghosts W) (w x : World W f) (k : ℕ) (first : V.first_false 0 (marks w.messages w.marks.delivered.items) ≡ Some k)
     (stepped : (v : V.World) → Shows f w v → Shows f x (V.deliver (grammar_of w.accepted.now.grammar) v k).world) where
   is_first : (v : V.World) → Shows f w v → V.undelivered v ≡ Some k
-  is_first v S = ap (V.first_false 0) S.delivered ∙ first
+  is_first v S = ap (λ (u : V.World). V.first_false 0 u.delivered) (sym S) ∙ first
 
   -- one more is delivered
   pub one_more : (suc (count_set w.marks.delivered.items) ≤ count_set x.marks.delivered.items) × (count_set x.marks.delivered.items ≤ suc (count_set w.marks.delivered.items))
@@ -83,8 +83,8 @@ module _ {W : Type 0} (f : Ghosts W) (w x : World W f) (k : ℕ) (first : V.firs
       let n = nearer (words_of w.accepted.now.grammar) p accepted w.loads es may k (is_first v S) in
       let a = counted f w v S in
       let b = counted f x (V.deliver p v k).world (stepped v S) in
-      let t : bound_of p (map choice_of x.taken.items) ≡ bound_of p (map choice_of w.taken.items) = ap (bound_of p) (sym (stepped v S).taken ∙ deliver_taken p v k ∙ S.taken) in
-      let s : bound_of p v.taken ≡ bound_of p (map choice_of w.taken.items) = ap (bound_of p) S.taken in
+      let t : bound_of p (map choice_of x.taken.items) ≡ bound_of p (map choice_of w.taken.items) = ap (bound_of p) (ap (λ (u : V.World). u.taken) (stepped v S) ∙ deliver_taken p v k ∙ ap (λ (u : V.World). u.taken) (sym S)) in
+      let s : bound_of p v.taken ≡ bound_of p (map choice_of w.taken.items) = ap (λ (u : V.World). bound_of p u.taken) (sym S) in
       omega (arith, n.0, n.1, a, b, t, s))
 
   pub settled_more : (start : V.World → Type 0) (n : ℕ) → n ≤ count_set w.marks.delivered.items
@@ -112,8 +112,8 @@ settled_all f w n v quiet S =
     let p = grammar_of w.accepted.now.grammar in
     let m = count_set w.marks.delivered.items - n in
     let b = bounded f w in
-    let t : bound_of p (map choice_of w.taken.items) ≡ bound_of p v.taken = ap (bound_of p) (sym S.taken ∙ settle_taken p m v) in
-    subst (Shows f w) (sym (settle_done p m (bound_of p v.taken) v (omega (arith, b, t)) (ap (V.first_false 0) S.delivered ∙ quiet))) S
+    let t : bound_of p (map choice_of w.taken.items) ≡ bound_of p v.taken = ap (bound_of p) (ap (λ (u : V.World). u.taken) S ∙ settle_taken p m v) in
+    subst (Shows f w) (sym (settle_done p m (bound_of p v.taken) v (omega (arith, b, t)) (ap (λ (u : V.World). V.first_false 0 u.delivered) (sym S) ∙ quiet))) S
 
 pub settled_whole : {W : Type 0} (f : Ghosts W) (w : World W f) (p : Grammar) → grammar_of w.accepted.now.grammar ≡ p → (n : ℕ) (v : V.World) →
     V.first_false 0 (marks w.messages w.marks.delivered.items) ≡ None

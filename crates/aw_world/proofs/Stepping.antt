@@ -1,9 +1,8 @@
--- What a choice and a delivery do to a world that is seen as a plain one.
-use Rattle.std.proofs.Common.{◌≡◌, ℕ, ◌+◌, ◌<◌, ◌≤◌, arith, Bool, true, false, List, [], ◌∷◌, ◌++◌, length, map, ap, sym, ◌∙◌, refl, subst}
+-- What a choice and a delivery do to the plain world that is seen.
+use Rattle.std.proofs.Common.{◌≡◌, ℕ, ◌+◌, ◌<◌, ◌≤◌, arith, Bool, true, false, List, [], ◌∷◌, ◌++◌, length, map, ap, sym, ◌∙◌, refl}
 use Rattle.std.specs.Prelude.{slice_set, if◌then◌else◌}
 use Rattle.std.proofs.lemmas.List.{length-map, length-append, map-append, append-nil}
 use Rattle.aw_list.proofs.Members.{never}
-use Rattle.aw_accept.specs.Acyclic.{Pairs}
 use Rattle.aw_term.specs.Trees.{Never}
 use Rattle.aw_term.specs.Names.{Ref}
 use Rattle.aw_term.specs.Rules.{get}
@@ -26,7 +25,7 @@ use Rattle.aw_world.specs.Marks.{marks}
 use Rattle.aw_msg.specs.MessageView.{message_of}
 use Rattle.aw_term.specs.Choices.{is_taken}
 use Rattle.aw_world.specs.MoveView.{reply_of}
-use Rattle.aw_world.specs.Seen.{Seen, Steps, ChoseAt, GotAt}
+use Rattle.aw_world.specs.Seen.{Steps, ChoseAt, GotAt, world_of}
 use Rattle.aw_world.proofs.MarkLemmas.{marks_more, marks_set}
 use Rattle.aw_world.proofs.Pairings.{set_same}
 
@@ -40,27 +39,21 @@ IsHonest (No a) = is_taken a ≡ false
 IsHonest (Did x) = Unit {0}
 
 module _ {W : Type 0} (f : Ghosts W) (d : Grammar) (ws xs : List W) (ms ns : List Message) where
-  pub chose : (bs : List Bool) (cs ds : List Choice) (c : Choice) (a : Answer) (v : V.World) (at : ℕ) (x : Chosen) → IsHonest x → ChoseAt f d xs at v.sites ms ns x a
-      → ds ≡ (if is_taken (answer_of a) then cs ++ c ∷ [] else cs) → length bs ≤ length ms → Seen f d ws ms bs cs v
-      → Steps f d xs ns bs ds (V.chosen_at v at (choice_of c) x) (replies.Choice a)
-  chose bs cs ds c a v at (No b) honest C noted l S = record {
-    world = record {
-      sites = subst (Pairs (λ y s. f.shows y s) xs) (set_same (empty_site false at) v.sites at) C.sites;
-      messages = S.messages ∙ sym (C.messages ∙ append-nil _);
-      delivered = S.delivered ∙ sym (marks_more {B = ℕ} ms ns bs [] l (lengths (message_of (grammar_of d)) ms ns [] C.messages) ∙ append-nil _);
-      taken = S.taken ∙ ap (map choice_of) (sym (noted ∙ ap (λ t. if t then cs ++ c ∷ [] else cs) (ap is_taken C.answer ∙ honest)));
-    };
-    reply = ap V.Answered C.answer;
-  }
-  chose bs cs ds c a v at (Did y) honest C noted l S = record {
-    world = record {
-      sites = C.sites;
-      messages = ap (λ z. z ++ y.sent) S.messages ∙ sym C.messages;
-      delivered = ap (λ z. z ++ map (λ m. false) y.sent) S.delivered ∙ sym (marks_more ms ns bs y.sent l (lengths (message_of (grammar_of d)) ms ns y.sent C.messages));
-      taken = ap (λ z. z ++ choice_of c ∷ []) S.taken ∙ sym (ap (map choice_of) (noted ∙ ap (λ t. if t then cs ++ c ∷ [] else cs) (ap is_taken C.answer)) ∙ map-append choice_of cs (c ∷ []));
-    };
-    reply = ap V.Answered C.answer;
-  }
+  abbrev ss : List Site
+  ss = map (λ w. f.seen w) ws
+
+  pub chose : (bs : List Bool) (cs ds : List Choice) (c : Choice) (a : Answer) (at : ℕ) (x : Chosen) → IsHonest x → ChoseAt f d xs at ss (get (empty_site false at) ss at) ms ns x a
+      → ds ≡ (if is_taken (answer_of a) then cs ++ c ∷ [] else cs) → length bs ≤ length ms → Steps f d xs ns bs ds (V.chosen_at (world_of f d ws ms bs cs) at (choice_of c) x) (replies.Choice a)
+  chose bs cs ds c a at (No b) honest C noted l =
+      let sites = C.sites ∙ set_same (empty_site false at) ss at in
+      let messages = C.messages ∙ append-nil _ in
+      let delivered = marks_more {B = ℕ} ms ns bs [] l (lengths (message_of (grammar_of d)) ms ns [] C.messages) ∙ append-nil _ in
+      let taken = ap (map choice_of) (noted ∙ ap (λ t. if t then cs ++ c ∷ [] else cs) (ap is_taken C.answer ∙ honest)) in
+      record { world = λ i. record { sites = sites i; messages = messages i; delivered = delivered i; taken = taken i }; reply = ap V.Answered C.answer }
+  chose bs cs ds c a at (Did y) honest C noted l =
+      let delivered = marks_more ms ns bs y.sent l (lengths (message_of (grammar_of d)) ms ns y.sent C.messages) in
+      let taken = ap (map choice_of) (noted ∙ ap (λ t. if t then cs ++ c ∷ [] else cs) (ap is_taken C.answer)) ∙ map-append choice_of cs (c ∷ []) in
+      record { world = λ i. record { sites = C.sites i; messages = C.messages i; delivered = delivered i; taken = taken i }; reply = ap V.Answered C.answer }
 
   new_reply : (b : Bool) → b ≡ true → reply_of (if b then replies.New else replies.Again) ≡ V.IsNew
   new_reply true e = refl
@@ -71,41 +64,28 @@ module _ {W : Type 0} (f : Ghosts W) (d : Grammar) (ws xs : List W) (ms ns : Lis
   again_reply false e = refl
 
   -- the flags stand as they were before the room was made
-  still : (os bs : List Bool) (cs : List Choice) (b : Bool) (v : V.World) (k at : ℕ) (s : Site) → s ≡ get (empty_site false at) v.sites at
-      → Pairs (λ y s. f.shows y s) xs (slice_set v.sites at s) → map (message_of (grammar_of d)) ns ≡ map (message_of (grammar_of d)) ms ++ [] → b ≡ false
-      → ((zs : List Message) → marks zs bs ≡ marks zs os) → k < length bs → length bs ≤ length ms → Seen f d ws ms os cs v
-      → Steps f d xs ns (slice_set bs k true) cs (record { world = V.mark_delivered k v; reply = V.Again }) (if b then replies.New else replies.Again)
-  still os bs cs b v k at s e ps em eb pad h l S =
+  still : (os bs : List Bool) (cs : List Choice) (b : Bool) (k at : ℕ) → map (λ w. f.seen w) xs ≡ slice_set ss at (get (empty_site false at) ss at)
+      → map (message_of (grammar_of d)) ns ≡ map (message_of (grammar_of d)) ms ++ [] → b ≡ false → ((zs : List Message) → marks zs bs ≡ marks zs os) → k < length bs → length bs ≤ length ms
+      → Steps f d xs ns (slice_set bs k true) cs (record { world = V.mark_delivered k (world_of f d ws ms os cs); reply = V.Again }) (if b then replies.New else replies.Again)
+  still os bs cs b k at es em eb pad h l =
       let m = lengths (message_of (grammar_of d)) ms ns [] em in
-      record {
-        world = record {
-          sites = subst (λ z. Pairs (λ y s. f.shows y s) xs z) (ap (slice_set v.sites at) e ∙ set_same (empty_site false at) v.sites at) ps;
-          messages = S.messages ∙ sym (em ∙ append-nil _);
-          delivered = ap (λ z. slice_set z k true) (S.delivered ∙ sym (pad ms) ∙ sym (marks_more {B = ℕ} ms ns bs [] l m ∙ append-nil _)) ∙ sym (marks_set ns bs k h (omega (arith, l, m)));
-          taken = S.taken;
-        };
-        reply = again_reply b eb;
-      }
+      let sites = es ∙ set_same (empty_site false at) ss at in
+      let messages = em ∙ append-nil _ in
+      let delivered = marks_set ns bs k h (omega (arith, l, m)) ∙ ap (λ z. slice_set z k true) (marks_more {B = ℕ} ms ns bs [] l m ∙ append-nil _ ∙ pad ms) in
+      record { world = λ i. record { sites = sites i; messages = messages i; delivered = delivered i; taken = map choice_of cs }; reply = again_reply b eb }
 
-  pub got : (os bs : List Bool) (cs : List Choice) (b : Bool) (v : V.World) (k at : ℕ) (x : Received Reaction) → GotAt f d xs at v.sites ms ns x b
-      → ((zs : List Message) → marks zs bs ≡ marks zs os) → k < length bs → length bs ≤ length ms → Seen f d ws ms os cs v
-      → Steps f d xs ns (slice_set bs k true) cs (V.received_at v k at x) (if b then replies.New else replies.Again)
-  got os bs cs b v k at (New y) G pad h l S =
+  pub got : (os bs : List Bool) (cs : List Choice) (b : Bool) (k at : ℕ) (x : Received Reaction) → GotAt f d xs at ss (get (empty_site false at) ss at) ms ns x b
+      → ((zs : List Message) → marks zs bs ≡ marks zs os) → k < length bs → length bs ≤ length ms
+      → Steps f d xs ns (slice_set bs k true) cs (V.received_at (world_of f d ws ms os cs) k at x) (if b then replies.New else replies.Again)
+  got os bs cs b k at (New y) G pad h l =
       let m = lengths (message_of (grammar_of d)) ms ns y.sent G.messages in
-      record {
-        world = record {
-          sites = G.sites;
-          messages = ap (λ z. z ++ y.sent) S.messages ∙ sym G.messages;
-          delivered = ap (λ z. slice_set (z ++ map (λ m. false) y.sent) k true) (S.delivered ∙ sym (pad ms)) ∙ ap (λ z. slice_set z k true)
-              (sym (marks_more ms ns bs y.sent l m)) ∙ sym (marks_set ns bs k h (omega (arith, l, m)));
-          taken = S.taken;
-        };
-        reply = new_reply b G.fresh;
-      }
-  got os bs cs b v k at BadName G pad h l S = still os bs cs b v k at _ refl G.sites G.messages G.fresh pad h l S
-  got os bs cs b v k at NotMine G pad h l S = still os bs cs b v k at _ refl G.sites G.messages G.fresh pad h l S
-  got os bs cs b v k at (Conflict p q) G pad h l S = still os bs cs b v k at _ refl G.sites G.messages G.fresh pad h l S
-  got os bs cs b v k at Repeat G pad h l S = still os bs cs b v k at _ refl G.sites G.messages G.fresh pad h l S
+      let delivered = marks_set ns bs k h (omega (arith, l, m)) ∙ ap (λ z. slice_set z k true) (marks_more ms ns bs y.sent l m)
+      ∙ ap (λ z. slice_set (z ++ map (λ m. false) y.sent) k true) (pad ms) in
+      record { world = λ i. record { sites = G.sites i; messages = G.messages i; delivered = delivered i; taken = map choice_of cs }; reply = new_reply b G.fresh }
+  got os bs cs b k at BadName G pad h l = still os bs cs b k at G.sites G.messages G.fresh pad h l
+  got os bs cs b k at NotMine G pad h l = still os bs cs b k at G.sites G.messages G.fresh pad h l
+  got os bs cs b k at (Conflict p q) G pad h l = still os bs cs b k at G.sites G.messages G.fresh pad h l
+  got os bs cs b k at Repeat G pad h l = still os bs cs b k at G.sites G.messages G.fresh pad h l
 
 -- an answer that is not `taken`
 not_taken : (a : Q.Answer Ref) → (a ≡ Q.Taken → Never) → is_taken a ≡ false

@@ -1,5 +1,5 @@
 -- What holds of a world of the program because events lead to it.
-use Rattle.std.proofs.Common.{◌≡◌, ℕ, zero, suc, ◌≤◌, arith, Bool, false, List, [], ◌∷◌, length, map, ap, sym, ◌∙◌, refl, subst, Some}
+use Rattle.std.proofs.Common.{◌≡◌, ℕ, zero, suc, ◌≤◌, arith, Bool, false, List, [], ◌∷◌, length, map, ap, sym, ◌∙◌, subst, Some}
 use Rattle.std.specs.Prelude.{slice_get, option_map}
 use Rattle.std.specs.Coded.{le_prop}
 use Rattle.std.proofs.Math.Logic.{∥∥₁_elim, ∥∥₁_map}
@@ -15,7 +15,6 @@ use Rattle.aw_term.specs.WellFormed.{Each}
 use Rattle.aw_term.specs.Held as P
 use Rattle.aw_term.proofs.GrammarTests.{grammars_are_one}
 use Rattle.aw_term.proofs.Gets.{get_some as got_site}
-use Rattle.aw_accept.specs.Acyclic.{Pairs}
 use Rattle.aw_accept.specs.declared.accepted.Accepted.{Accepted}
 use Rattle.aw_grammar.specs.declared.grammar.Grammar.{Grammar}
 use Rattle.aw_grammar.specs.GrammarOf.{grammar_of, words_of}
@@ -36,8 +35,9 @@ use Rattle.aw_world.specs.declared.workspace.Workspace.{Ghosts}
 use Rattle.aw_world.specs.Opened.{AreAtHome}
 use Rattle.aw_law_sites.specs.Joint.{Joint}
 use Rattle.aw_law_worlds.specs.Invariant.{IsInvariant}
-use Rattle.aw_world.specs.Seen.{ArePlaced, IsReached, Seen}
+use Rattle.aw_world.specs.Seen.{ArePlaced, IsReached, world_of}
 use Rattle.aw_world.specs.Staying.{IsConfigured}
+use Rattle.aw_world.proofs.Pairings.{map_got}
 
 -- ---- what is known of the plain world
 
@@ -50,12 +50,6 @@ module _ (words : Words) (g : R.Grammar) (accepted : IsAccepted words g) (loads 
 
 -- ---- the same of the program's world
 
--- the site at a workspace's place
-pub site_there : {A B : Type 0} (R : A → B → Type 0) (xs : List A) (ys : List B) (i : ℕ) (x : A) → Pairs R xs ys → slice_get xs i ≡ Some x → (y : B) × (slice_get ys i ≡ Some y) × R x y
-site_there R [] ys i x p e = absurd cc
-site_there R (a ∷ xs) [] i x p e = elim p [ ]
-site_there R (a ∷ xs) (b ∷ ys) zero x p e = (b, refl, subst (λ z. R z b) (same_Some a x e) p.0)
-site_there R (a ∷ xs) (b ∷ ys) (suc i) x p e = site_there R xs ys i x p.1 e
 
 module _ {W : Type 0} (f : Ghosts W) (a : Accepted) (loads : Bool) (ws : List W) (ms : List Message) (bs : List Bool) (ts : List Choice) (h : ∥ IsReached f a.grammar loads ws ms bs ts ∥₁) where
   abbrev d : Grammar
@@ -64,13 +58,13 @@ module _ {W : Type 0} (f : Ghosts W) (a : Accepted) (loads : Bool) (ws : List W)
   abbrev p : R.Grammar
   p = grammar_of a.grammar
 
-  pub reached_homes : ((w : W) (s : Site) → f.shows w s → s.held ≡ all_of (f.its_grammar w) (f.its_nodes w)) → ArePlaced f a.grammar ws → AreAtHome f (grammar_of a.grammar) ws
+  pub reached_homes : ((w : W) → (f.seen w).held ≡ all_of (f.its_grammar w) (f.its_nodes w)) → ArePlaced f a.grammar ws → AreAtHome f (grammar_of a.grammar) ws
   reached_homes hold placed i j w x e at =
       ∥∥₁_elim d.well_formed (ℕ_set _ _) (λ wf. ∥∥₁_elim a.sound (ℕ_set _ _) (λ so. ∥∥₁_elim h (ℕ_set _ _) (λ r.
       let v = world_after p loads r.0 in
-      let (s, here, shown) = site_there (λ x s. f.shows x s) ws v.sites i w r.2.sites e in
       let same : f.its_grammar w ≡ p = grammars_are_one (f.its_grammar w) p (placed.grammar i w e) in
-      let held : (V.site_at v i).held ≡ all_of p (f.its_nodes w) = ap (λ t. t.held) (got_site (empty_site false i) v.sites i s here) ∙ hold w s shown ∙ ap (λ g. all_of g (f.its_nodes w)) same in
+      let held : (V.site_at v i).held ≡ all_of p (f.its_nodes w) =
+      ap (λ (u : V.World). (V.site_at u i).held) (sym r.2) ∙ ap (λ (s : Site). s.held) (map_got (λ w. f.seen w) (empty_site false i) ws i w e) ∙ hold w ∙ ap (λ g. all_of g (f.its_nodes w)) same in
       homes_law (words_of d) p (wf, so) loads r.0 r.1 i (held_of p x)
       (subst (Member (held_of p x)) (sym held) (member_got (all_of p (f.its_nodes w)) j (held_of p x) (slice_get-map (held_of p) (f.its_nodes w) j ∙ ap (option_map (held_of p)) at))))))
 
@@ -78,16 +72,16 @@ module _ {W : Type 0} (f : Ghosts W) (a : Accepted) (loads : Bool) (ws : List W)
   reached_bound =
       ∥∥₁_elim d.well_formed le_prop (λ w. ∥∥₁_elim a.sound le_prop (λ s. ∥∥₁_elim h le_prop (λ r.
       let b = within_bound (words_of d) p (w, s) loads r.0 r.1 in
-      let m : length (world_after p loads r.0).messages ≡ length ms = ap length r.2.messages ∙ length-map ms (message_of p) in
-      let t = ap (bound_of p) r.2.taken in
+      let m : length (world_after p loads r.0).messages ≡ length ms = ap (λ (u : V.World). length u.messages) (sym r.2) ∙ length-map ms (message_of p) in
+      let t = ap (λ (u : V.World). bound_of p u.taken) (sym r.2) in
       omega (arith, b, m, t))))
 
   pub reached_configured : ∥ IsConfigured (grammar_of a.grammar) (map choice_of ts) ∥₁
   reached_configured =
       ∥∥₁_elim d.well_formed ∥∥₁_prop (λ w. ∥∥₁_elim a.sound ∥∥₁_prop (λ s. ∥∥₁_map h (λ r.
-      subst (IsConfigured p) r.2.taken (configured_law (words_of d) p (w, s) loads r.0 r.1))))
+      subst (λ (u : V.World). IsConfigured p u.taken) (sym r.2) (configured_law (words_of d) p (w, s) loads r.0 r.1))))
 
-  pub reached_together : ∥ ((v : V.World) × Seen f a.grammar ws ms bs ts v × (x : Joint) × IsInvariant p loads v x) ∥₁
+  pub reached_together : ∥ ((v : V.World) × (world_of f a.grammar ws ms bs ts ≡ v) × (x : Joint) × IsInvariant p loads v x) ∥₁
   reached_together =
       ∥∥₁_elim d.well_formed ∥∥₁_prop (λ w. ∥∥₁_elim a.sound ∥∥₁_prop (λ s. ∥∥₁_map h (λ r.
       (let (x, fits) = invariant_law (words_of d) p (w, s) loads r.0 r.1 in (world_after p loads r.0, r.2, x, fits)))))

@@ -6,6 +6,7 @@ use Rattle.aw_grammar.specs.GrammarOf.{grammar_of, words_of}
 use Rattle.aw_choice.specs.declared.choice.Choice.{Choice}
 use Rattle.aw_choice.specs.ChoiceView.{choice_of}
 use Rattle.aw_term.specs.Configs.{Config}
+use Rattle.aw_term.specs.Rules as R
 use Rattle.aw_term.specs.Choices.{undivided}
 use Rattle.aw_term.specs.Artifacts.{artifact_text}
 use Rattle.aw_msg.specs.declared.message.Message.{Message}
@@ -21,20 +22,20 @@ use Rattle.aw_law_sites.specs.Worlds.{World}
 use Rattle.aw_law_worlds.specs.ReadRows.{AreRead}
 
 -- what a site does for a choice
-abbrev pub choice_at : Grammar → Site → Choice → Chosen
-choice_at d s c = choose (grammar_of d) s (choice_of c)
+abbrev pub choice_at : R.Grammar → Site → Choice → Chosen
+choice_at g s c = choose g s (choice_of c)
 
 -- what a site does for a message
-abbrev pub message_at : Grammar → Site → Message → Received Reaction
-message_at d s m = receive (grammar_of d) s (message_of (grammar_of d) m)
+abbrev pub message_at : R.Grammar → Site → Message → Received Reaction
+message_at g s m = receive g s (message_of g m)
 
 -- messages as plain ones
-abbrev pub all_messages : Grammar → List Message → List plain.Message
-all_messages d ms = map (message_of (grammar_of d)) ms
+abbrev pub all_messages : R.Grammar → List Message → List plain.Message
+all_messages g ms = map (message_of g) ms
 
 -- these messages are added
-abbrev pub AddsMessages : Grammar → List Message → List Message → List plain.Message → Type 0
-AddsMessages d old new more = all_messages d new ≡ all_messages d old ++ more
+abbrev pub AddsMessages : R.Grammar → List Message → List Message → List plain.Message → Type 0
+AddsMessages g old new more = all_messages g new ≡ all_messages g old ++ more
 
 -- the lines of the rows that are read from what the sites of a world hold
 abbrev pub PrintsRows : Grammar → World → Bounded → Bounded → Result Unit PrintFault → Type 0

@@ -8,17 +8,21 @@ use Rattle.aw_world.specs.declared.workspace.Workspace.{Ghosts}
 use Rattle.aw_world.specs.declared.world.World.{World}
 use Rattle.aw_world.specs.declared.moves.Reply.{Reply}
 use Rattle.aw_world.specs.Marks.{marks}
-use Rattle.aw_world.specs.Seen.{Seen, Steps}
+use Rattle.aw_world.specs.Seen.{Steps, world_of}
 
--- it can be seen as this plain world
+-- the plain world that it is
+abbrev pub world_seen : {W : Type 0} (f : Ghosts W) → World W f → P.World
+world_seen f w = world_of f w.accepted.now.grammar w.sites.items w.messages w.marks.delivered.items w.taken.items
+
+-- that is this one
 abbrev pub Shows : {W : Type 0} (f : Ghosts W) → World W f → P.World → Type 0
-Shows f w v = Seen f w.accepted.now.grammar w.sites.items w.messages w.marks.delivered.items w.taken.items v
+Shows f w v = world_seen f w ≡ v
 
--- it can be seen as the plain world behind this step, and the reply is the same
+-- it is the plain world behind this step, and the reply is the same
 abbrev pub ShowsStep : {W : Type 0} (f : Ghosts W) → World W f → P.Stepped → Reply → Type 0
 ShowsStep f w x r = Steps f w.accepted.now.grammar w.sites.items w.messages w.marks.delivered.items w.taken.items x r
 
--- whatever plain world it can be seen as before, it can be seen as the one behind this event after, and the reply is the same
+-- whatever plain world it was, it is the one behind this event after, and the reply is the same
 abbrev pub ShowsMove : {W : Type 0} (f : Ghosts W) → World W f → World W f → P.Move → Reply → Type 0
 ShowsMove f old new e r = (v : P.World) → Shows f old v → ShowsStep f new (P.step (grammar_of old.accepted.now.grammar) v e) r
 

@@ -7,6 +7,6 @@ use Rattle.aw_world.specs.Shown.{Shows}
 use Rattle.aw_world.specs.declared.workspace.Workspace.{Ghosts}
 use Rattle.aw_world.specs.declared.world.World.{World}
 
--- it can be seen as a plain world, and what the sites of that hold, asked for and were sent fits together
+-- it is a plain world, and what the sites of that hold, asked for and were sent fits together
 abbrev pub FitsTogether : {W : Type 0} (f : Ghosts W) → World W f → Type 0
 FitsTogether f w = (v : V.World) × Shows f w v × (x : Joint) × IsInvariant (grammar_of w.accepted.now.grammar) w.loads v x

@@ -1,15 +1,13 @@
 //! A choice in a world.
-ghost use Rattle.std.specs.Prelude.{◌≡◌, ◌++◌, ◌∷◌, ◌<◌, ◌≤◌, if◌then◌else◌, List, [], true, IfOk, OnErr, length, vec_len, vec_capacity};
+ghost use Rattle.std.specs.Prelude.{◌≡◌, ◌++◌, ◌∷◌, ◌<◌, ◌≤◌, if◌then◌else◌, [], true, IfOk, OnErr, length, map as list_map, vec_len, vec_capacity};
 ghost use Rattle.aw_grammar.specs.GrammarOf.{grammar_of};
 ghost use Rattle.aw_base.specs.ChoiceFits.{choice_ok};
 ghost use Rattle.aw_choice.specs.ChoiceView.{choice_of, answer_of};
 ghost use Rattle.aw_law_sites.specs.Homes.{home};
-ghost use Rattle.aw_law_sites.specs.Sites as P;
 ghost use Rattle.aw_law_sites.specs.Worlds as V;
 ghost use Rattle.aw_term.specs.Choices.{is_taken};
-ghost use Rattle.aw_term.specs.SameGrammar.{same_grammar};
 ghost use Rattle.aw_world.specs.Marked.{StaysSeenForAllDelivered};
-ghost use Rattle.aw_world.specs.Seen.{ArePlaced, ShowEach, Answers, AnswersAt, Chooses};
+ghost use Rattle.aw_world.specs.Seen.{ArePlaced, Answers, AnswersAt, Chooses};
 
 use crate::workspace::Workspace;
 use aw_accept::Accepted;
@@ -51,45 +49,43 @@ fn role_of(alloc: Global, g: &Grammar, choice: &Choice) -> u16
 
 /// Makes a choice at a workspace.
 fn choose_here<W: Workspace>(
-    accepted: &Accepted,
     site: &mut W,
     choice: &Choice,
     messages: &mut Messages,
 ) -> Result<Answer, AllocError>
-    requires grammar { same_grammar (W.its_grammar site.old) (grammar_of accepted.now.grammar) ≡ true }
-    requires ok { choice_ok (grammar_of accepted.now.grammar) (choice_of choice.now) ≡ true }
-    requires here { home (grammar_of accepted.now.grammar) (V.node_of (choice_of choice.now)) ≡ W.its_role site.old }
+    requires ok { choice_ok (W.its_grammar site.old) (choice_of choice.now) ≡ true }
+    requires here { home (W.its_grammar site.old) (V.node_of (choice_of choice.now)) ≡ W.its_role site.old }
     ensures grammar { W.its_grammar site.new ≡ W.its_grammar site.old }
     ensures role { W.its_role site.new ≡ W.its_role site.old }
     ensures grows { length messages.old ≤ length messages.new }
-    ensures chose { IfOk result (λ a. Answers ⟦<W as Workspace>⟧ accepted.now.grammar site.old site.new messages.old messages.new choice.now a) }
-    ensures err { OnErr result ((s : P.Site) → W.shows site.old s → W.shows site.new s) }
+    ensures chose { IfOk result (λ a. Answers ⟦<W as Workspace>⟧ (W.its_grammar site.old) site.old site.new messages.old messages.new choice.now a) }
+    ensures err { OnErr result (W.seen site.new ≡ W.seen site.old) }
     ensures err_messages { OnErr result (messages.new ≡ messages.old) }
 {
-    let (answer, _) = site.choose_into(accepted, choice, messages)?;
+    let (answer, _) = site.choose_into(choice, messages)?;
     Ok(answer)
 }
 
 /// Makes a choice at the workspace of a role.
 fn choose_at<W: Workspace>(
-    accepted: &Accepted,
+    _accepted: &Accepted,
     sites: &mut Vec<W>,
     at: usize,
     choice: &Choice,
     messages: &mut Messages,
 ) -> Result<Answer, AllocError>
-    requires placed { ArePlaced ⟦<W as Workspace>⟧ accepted.now.grammar sites.old.items }
+    requires placed { ArePlaced ⟦<W as Workspace>⟧ _accepted.now.grammar sites.old.items }
     requires at { at < length sites.old.items }
-    requires ok { choice_ok (grammar_of accepted.now.grammar) (choice_of choice.now) ≡ true }
-    requires here { home (grammar_of accepted.now.grammar) (V.node_of (choice_of choice.now)) ≡ at }
-    ensures placed { ArePlaced ⟦<W as Workspace>⟧ accepted.now.grammar sites.new.items }
+    requires ok { choice_ok (grammar_of _accepted.now.grammar) (choice_of choice.now) ≡ true }
+    requires here { home (grammar_of _accepted.now.grammar) (V.node_of (choice_of choice.now)) ≡ at }
+    ensures placed { ArePlaced ⟦<W as Workspace>⟧ _accepted.now.grammar sites.new.items }
     ensures grows { length messages.old ≤ length messages.new }
-    ensures chose { IfOk result (λ a. AnswersAt ⟦<W as Workspace>⟧ accepted.now.grammar sites.old.items sites.new.items at messages.old messages.new choice.now a) }
-    ensures err { OnErr result ((ss : List P.Site) → ShowEach ⟦<W as Workspace>⟧ sites.old.items ss → ShowEach ⟦<W as Workspace>⟧ sites.new.items ss) }
+    ensures chose { IfOk result (λ a. AnswersAt ⟦<W as Workspace>⟧ _accepted.now.grammar sites.old.items sites.new.items at messages.old messages.new choice.now a) }
+    ensures err { OnErr result (list_map (λ w. W.seen w) sites.new.items ≡ list_map (λ w. W.seen w) sites.old.items) }
     ensures err_messages { OnErr result (messages.new ≡ messages.old) }
 {
     let site = &mut sites[at];
-    choose_here(accepted, site, choice, messages)
+    choose_here(site, choice, messages)
 }
 
 /// Whether a choice was taken.

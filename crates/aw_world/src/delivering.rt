@@ -1,8 +1,7 @@
 //! The delivery of a message in a world.
-ghost use Rattle.std.specs.Prelude.{◌≡◌, ◌<◌, ◌≤◌, ℕ, List, Some, None, IfOk, OnErr, length};
-ghost use Rattle.aw_law_sites.specs.Sites as P;
+ghost use Rattle.std.specs.Prelude.{◌≡◌, ◌<◌, ◌≤◌, ℕ, Some, None, IfOk, OnErr, length, map as list_map};
 ghost use Rattle.aw_world.specs.Marked.{DeliversTo, StaysSeenForAllTaken};
-ghost use Rattle.aw_world.specs.Seen.{ArePlaced, AreAddressed, ShowEach, TakesInAt, reply_for};
+ghost use Rattle.aw_world.specs.Seen.{ArePlaced, AreAddressed, TakesInAt, reply_for};
 
 use crate::marks::Marks;
 use crate::moves::Reply;
@@ -13,22 +12,22 @@ use std::alloc::AllocError;
 
 /// Takes in a message at the workspace of a role.
 fn receive_at<W: Workspace>(
-    accepted: &Accepted,
+    _accepted: &Accepted,
     sites: &mut Vec<W>,
     at: usize,
     message: &Message,
     messages: &mut Messages,
 ) -> Result<bool, AllocError>
-    requires placed { ArePlaced ⟦<W as Workspace>⟧ accepted.now.grammar sites.old.items }
+    requires placed { ArePlaced ⟦<W as Workspace>⟧ _accepted.now.grammar sites.old.items }
     requires at { at < length sites.old.items }
-    ensures placed { ArePlaced ⟦<W as Workspace>⟧ accepted.now.grammar sites.new.items }
+    ensures placed { ArePlaced ⟦<W as Workspace>⟧ _accepted.now.grammar sites.new.items }
     ensures grows { length messages.old ≤ length messages.new }
-    ensures got { IfOk result (λ new. TakesInAt ⟦<W as Workspace>⟧ accepted.now.grammar sites.old.items sites.new.items at messages.old messages.new message.now new) }
-    ensures err { OnErr result ((ss : List P.Site) → ShowEach ⟦<W as Workspace>⟧ sites.old.items ss → ShowEach ⟦<W as Workspace>⟧ sites.new.items ss) }
+    ensures got { IfOk result (λ new. TakesInAt ⟦<W as Workspace>⟧ _accepted.now.grammar sites.old.items sites.new.items at messages.old messages.new message.now new) }
+    ensures err { OnErr result (list_map (λ w. W.seen w) sites.new.items ≡ list_map (λ w. W.seen w) sites.old.items) }
     ensures err_messages { OnErr result (messages.new ≡ messages.old) }
 {
     let site = &mut sites[at];
-    let new = site.receive_into(accepted, message, messages)?;
+    let new = site.receive_into(message, messages)?;
     Ok(new)
 }
 

@@ -9,7 +9,7 @@ ghost use Rattle.aw_term.specs.SameGrammar.{same_grammar};
 ghost use Rattle.aw_world.specs.Merged.{held_at};
 ghost use Rattle.aw_world.specs.Opened.{AreAllInOrder, AreAtHome, open_nodes};
 ghost use Rattle.aw_world.specs.Reactions.{PrintsRows, PrintsArtifacts, HasRows};
-ghost use Rattle.aw_world.specs.Seen.{ArePlaced, ShowEach, KeepEach};
+ghost use Rattle.aw_world.specs.Seen.{ArePlaced, KeepEach};
 ghost use Rattle.aw_world.specs.SpotRows.{PrintsSpot};
 
 use crate::merging::{Spot, in_order};
@@ -77,7 +77,7 @@ fn print_each<W: Workspace>(
     requires order { AreAllInOrder ⟦<W as Workspace>⟧ sites.now spots.now }
     requires named { names.old.grammar.now ≡ accepted.now.grammar }
     requires ready { KeepEach ⟦<W as Workspace>⟧ accepted.now.grammar report.old sites.now printers.old.items }
-    ensures { (v : V.World) → ShowEach ⟦<W as Workspace>⟧ sites.now v.sites → PrintsRows accepted.now.grammar v report.old report.new result }
+    ensures { (v : V.World) → list_map (λ w. W.seen w) sites.now ≡ v.sites → PrintsRows accepted.now.grammar v report.old report.new result }
 {
     for spot in spots {
         print_at(alloc, accepted, sites, spot, names, printers, report)?;
@@ -96,7 +96,7 @@ fn print_all<W: Workspace>(
     requires placed { ArePlaced ⟦<W as Workspace>⟧ accepted.now.grammar sites.now }
     requires homes { AreAtHome ⟦<W as Workspace>⟧ (grammar_of accepted.now.grammar) sites.now }
     requires order { AreAllInOrder ⟦<W as Workspace>⟧ sites.now spots.now }
-    ensures { (v : V.World) → ShowEach ⟦<W as Workspace>⟧ sites.now v.sites → PrintsRows accepted.now.grammar v report.old report.new result }
+    ensures { (v : V.World) → list_map (λ w. W.seen w) sites.now ≡ v.sites → PrintsRows accepted.now.grammar v report.old report.new result }
 {
     let mut printers = new_printers(alloc, sites)?;
     let mut names = NameWriter::new(alloc, accepted.grammar());
@@ -117,7 +117,7 @@ impl<'g, W: Workspace> World<'g, W> {
     /// The workspace of a role.
     pub fn site(&self, role: u16) -> &W
         requires { role < (grammar_of self.now.accepted.now.grammar).roles }
-        ensures shows { (v : V.World) → Shows ⟦<W as Workspace>⟧ self.now v → W.shows result.now (V.site_at v role) }
+        ensures shows { (v : V.World) → Shows ⟦<W as Workspace>⟧ self.now v → W.seen result.now ≡ V.site_at v role }
         ensures role { W.its_role result.now ≡ role }
         ensures grammar { same_grammar (W.its_grammar result.now) (grammar_of self.now.accepted.now.grammar) ≡ true }
     {
@@ -130,7 +130,7 @@ impl<'g, W: Workspace> World<'g, W> {
         requires { role < (grammar_of self.now.accepted.now.grammar).roles }
         ensures { IfOk result (λ items. IsWorklist ⟦<W as Workspace>⟧ self.now role (list_map item_of items)) }
     {
-        self.site(role).list(self.accepted)
+        self.site(role).list()
     }
 
     /// Where the nodes of all roles stand, in the order of nodes.

@@ -1,6 +1,5 @@
 //! A world in which nothing happened yet.
 ghost use Rattle.std.specs.Prelude.{◌≡◌, IfOk, map as list_map};
-ghost use Rattle.aw_accept.specs.Acyclic.{Pairs};
 ghost use Rattle.aw_grammar.specs.GrammarOf.{grammar_of};
 ghost use Rattle.aw_term.specs.Rules.{upto};
 ghost use Rattle.aw_law_sites.specs.Sites as P;
@@ -21,7 +20,7 @@ fn make_sites<'g, W: Made<'g>>(
     loads: bool,
 ) -> Result<Vec<W>, AllocError>
     ensures placed { IfOk result (λ ws. ArePlaced ⟦<W as Workspace>⟧ accepted.now.grammar ws.items) }
-    ensures shown { IfOk result (λ ws. Pairs (λ x s. W.shows x s) ws.items (list_map (P.empty_site loads) (upto 0 (grammar_of accepted.now.grammar).roles))) }
+    ensures shown { IfOk result (λ ws. list_map (λ w. W.seen w) ws.items ≡ list_map (P.empty_site loads) (upto 0 (grammar_of accepted.now.grammar).roles)) }
 {
     let mut sites = Vec::new(alloc);
     let count = accepted.grammar().roles.len();

@@ -1,8 +1,7 @@
 //! Worlds whose workspaces are the sites of the program.
-ghost use Rattle.std.specs.Prelude.{◌≡◌, ◌<◌, true, IfOk, map as list_map};
-ghost use Rattle.std.proofs.Common.{ap};
+ghost use Rattle.std.specs.Prelude.{◌≡◌, true};
+ghost use Rattle.std.proofs.Common.{refl};
 ghost use Rattle.aw_apply.specs.Messages.{Received as Answered};
-ghost use Rattle.aw_choice.specs.ChoiceView.{item_of};
 ghost use Rattle.aw_grammar.specs.GrammarOf.{grammar_of};
 ghost use Rattle.aw_node_list.specs.HeldView.{held_of};
 ghost use Rattle.aw_print.specs.Growing.{HasGrown};
@@ -11,9 +10,7 @@ ghost use Rattle.aw_print.proofs.ReadyLemmas.{ready_new, ready_on};
 ghost use Rattle.aw_law_sites.specs.ValidNames.{takes_as};
 ghost use Rattle.aw_law_sites.specs.Sites.{Reaction};
 ghost use Rattle.aw_site.specs.Answers.{IsReceived};
-ghost use Rattle.aw_site.specs.Seen.{IsShown};
-ghost use Rattle.aw_space.specs.Seen.{space_seen};
-ghost use Rattle.aw_space.specs.Spaces.{worklist};
+ghost use Rattle.aw_site.specs.Seen.{site_seen};
 ghost use Rattle.aw_space.specs.Valid.{done_fits};
 ghost use Rattle.aw_term.specs.Rules.{sort_of};
 ghost use Rattle.aw_world.specs.PrintedRows.{PrintsHeld};
@@ -22,7 +19,6 @@ ghost use Rattle.aw_world.specs.SiteAnswers.{is_new};
 use crate::workspace::{Made, Workspace};
 use crate::world::World;
 use aw_accept::Accepted;
-use aw_apply::Steps;
 use aw_base::NameWriter;
 use aw_cells::CellFacts;
 use aw_choice::{Answer, Choice, Worklist};
@@ -32,38 +28,11 @@ use aw_node_list::{Held, Holding};
 use aw_out::{PrintFault, Report};
 use aw_print::{Printer, artifact_row};
 use aw_site::{Received, Site};
-use aw_space::Space;
 use aw_store::Facts;
 use std::alloc::{AllocError, Global};
-use std::marker::Brand;
-use std::sync::ledger::{Blank, Ledger};
 
 /// A world of sites, each over a store that finds references by hashes.
 pub type SiteWorld<'g> = World<'g, Site<'g, CellFacts>>;
-
-/// The worklist of a space, in a ledger of its own.
-fn list_in_ledger<L: Ledger>(
-    space: &Space<CellFacts>,
-    accepted: &Accepted,
-    blank: Blank,
-) -> Result<Worklist, AllocError>
-    requires name { blank.name ≡ L.name }
-    requires parts { blank.parts ≡ L.parts }
-    requires some { 0 < L.parts }
-    requires grammar { accepted.now.grammar ≡ space.now.accepted.now.grammar }
-    ensures { IfOk result (λ items. list_map item_of items ≡ worklist (grammar_of accepted.now.grammar) (space_seen ⟦<CellFacts as Facts>⟧ space.now)) }
-{
-    let mut steps = Steps::<L>::new(blank);
-    space.list(accepted, &mut steps)
-}
-
-/// The worklist of a space, where nobody counts the tests.
-fn list_uncounted(space: &Space<CellFacts>, accepted: &Accepted) -> Result<Worklist, AllocError>
-    requires { accepted.now.grammar ≡ space.now.accepted.now.grammar }
-    ensures { IfOk result (λ items. list_map item_of items ≡ worklist (grammar_of accepted.now.grammar) (space_seen ⟦<CellFacts as Facts>⟧ space.now)) }
-{
-    list_in_ledger::<Brand>(space, accepted, Blank::new(1))
-}
 
 /// Prints the artifact line of a held node.
 fn print_held(
@@ -111,13 +80,12 @@ impl<'g> Workspace for Site<'g, CellFacts> {
 
     ghost its_nodes = { λ w. w.space.held.items };
 
-    ghost shows = { λ w s. IsShown ⟦<CellFacts as Facts>⟧ w s };
+    ghost seen = { λ w. site_seen ⟦<CellFacts as Facts>⟧ w };
 
     ghost keeps = { λ w g report p. IsReady g (⟦<CellFacts as Facts>⟧.map w.space.facts) (⟦<CellFacts as Facts>⟧.names w.space.facts) report p };
 
     fn choose_into(
         &mut self,
-        _accepted: &Accepted,
         choice: &Choice,
         copy: &mut Messages,
     ) -> Result<(Answer, usize), AllocError> {
@@ -125,19 +93,14 @@ impl<'g> Workspace for Site<'g, CellFacts> {
         Site::choose_into(self, own, choice, copy)
     }
 
-    fn receive_into(
-        &mut self,
-        _accepted: &Accepted,
-        message: &Message,
-        copy: &mut Messages,
-    ) -> Result<bool, AllocError> {
+    fn receive_into(&mut self, message: &Message, copy: &mut Messages) -> Result<bool, AllocError> {
         let own = self.accepted();
         let received = Site::receive_into(self, own, message, copy)?;
         Ok(is_new(&received))
     }
 
-    fn list(&self, _accepted: &Accepted) -> Result<Worklist, AllocError> {
-        list_uncounted(self.space(), self.accepted())
+    fn list(&self) -> Result<Worklist, AllocError> {
+        Site::list(self, self.accepted())
     }
 
     fn nodes(&self) -> &Holding {
@@ -166,7 +129,7 @@ impl<'g> Workspace for Site<'g, CellFacts> {
         )
     }
 
-    ghost has_role = { λ w s shown. shown.holds.role };
+    ghost has_role = { λ w. refl };
 
     ghost in_order = { λ w. w.space.sound.ordered };
 
@@ -174,7 +137,7 @@ impl<'g> Workspace for Site<'g, CellFacts> {
 
     ghost keeps_on = { λ w g old new p grown ready. ready_on g (⟦<CellFacts as Facts>⟧.map w.space.facts) (⟦<CellFacts as Facts>⟧.names w.space.facts) old new p grown ready };
 
-    ghost holds = { λ w s shown. ap (λ x. x.held) shown.holds.holds };
+    ghost holds = { λ w. refl };
 }
 
 impl<'g> Made<'g> for Site<'g, CellFacts> {

@@ -45,8 +45,8 @@ pub trait Workspace: Drop {
     /// The nodes that it holds.
     ghost its_nodes: { Self → List HeldValue };
 
-    /// It can be seen as this site.
-    ghost shows: { Self → P.Site → Type 0 };
+    /// The plain site that it is.
+    ghost seen: { Self → P.Site };
 
     /// With the words of this grammar this printer can print its lines into this report: what it keeps is so over its equations, and in
     /// the report.
@@ -55,44 +55,35 @@ pub trait Workspace: Drop {
     /// Answers a choice, and appends what it sends to a list; how many messages those are. An error changes nothing.
     fn choose_into(
         &mut self,
-        accepted: &Accepted,
         choice: &Choice,
         copy: &mut Messages,
     ) -> Result<(Answer, usize), AllocError>
-        requires grammar { same_grammar (its_grammar self.old) (grammar_of accepted.now.grammar) ≡ true }
-        requires ok { choice_ok (grammar_of accepted.now.grammar) (choice_of choice.now) ≡ true }
-        requires here { home (grammar_of accepted.now.grammar) (node_of (choice_of choice.now)) ≡ its_role self.old }
+        requires ok { choice_ok (its_grammar self.old) (choice_of choice.now) ≡ true }
+        requires here { home (its_grammar self.old) (node_of (choice_of choice.now)) ≡ its_role self.old }
         ensures grammar { its_grammar self.new ≡ its_grammar self.old }
         ensures role { its_role self.new ≡ its_role self.old }
-        ensures answer { IfOk result (λ r. (s : P.Site) → shows self.old s → answer_of r.0 ≡ answer_to (choice_at accepted.now.grammar s choice.now)) }
-        ensures count { IfOk result (λ r. (s : P.Site) → shows self.old s → r.1 ≡ length (sent_by (choice_at accepted.now.grammar s choice.now))) }
-        ensures site { OnOk result ((s : P.Site) → shows self.old s → shows self.new (after_choice s (choice_at accepted.now.grammar s choice.now))) }
-        ensures sent { OnOk result ((s : P.Site) → shows self.old s → AddsMessages accepted.now.grammar copy.old copy.new (sent_by (choice_at accepted.now.grammar s choice.now))) }
+        ensures answer { IfOk result (λ r. answer_of r.0 ≡ answer_to (choice_at (its_grammar self.old) (seen self.old) choice.now)) }
+        ensures count { IfOk result (λ r. r.1 ≡ length (sent_by (choice_at (its_grammar self.old) (seen self.old) choice.now))) }
+        ensures site { OnOk result (seen self.new ≡ after_choice (seen self.old) (choice_at (its_grammar self.old) (seen self.old) choice.now)) }
+        ensures sent { OnOk result (AddsMessages (its_grammar self.old) copy.old copy.new (sent_by (choice_at (its_grammar self.old) (seen self.old) choice.now))) }
         ensures grows { length copy.old ≤ length copy.new }
-        ensures err { OnErr result ((s : P.Site) → shows self.old s → shows self.new s) }
+        ensures err { OnErr result (seen self.new ≡ seen self.old) }
         ensures err_sent { OnErr result (copy.new ≡ copy.old) };
 
     /// Takes in a message, whatever it says, and appends what it sends to a list. An error changes nothing.
-    fn receive_into(
-        &mut self,
-        accepted: &Accepted,
-        message: &Message,
-        copy: &mut Messages,
-    ) -> Result<bool, AllocError>
-        requires { same_grammar (its_grammar self.old) (grammar_of accepted.now.grammar) ≡ true }
+    fn receive_into(&mut self, message: &Message, copy: &mut Messages) -> Result<bool, AllocError>
         ensures grammar { its_grammar self.new ≡ its_grammar self.old }
         ensures role { its_role self.new ≡ its_role self.old }
-        ensures new { IfOk result (λ new. (s : P.Site) → shows self.old s → new ≡ is_new (message_at accepted.now.grammar s message.now)) }
-        ensures site { OnOk result ((s : P.Site) → shows self.old s → shows self.new (after_message s (message_at accepted.now.grammar s message.now))) }
-        ensures sent { OnOk result ((s : P.Site) → shows self.old s → AddsMessages accepted.now.grammar copy.old copy.new (sent_for (message_at accepted.now.grammar s message.now))) }
+        ensures new { IfOk result (λ new. new ≡ is_new (message_at (its_grammar self.old) (seen self.old) message.now)) }
+        ensures site { OnOk result (seen self.new ≡ after_message (seen self.old) (message_at (its_grammar self.old) (seen self.old) message.now)) }
+        ensures sent { OnOk result (AddsMessages (its_grammar self.old) copy.old copy.new (sent_for (message_at (its_grammar self.old) (seen self.old) message.now))) }
         ensures grows { length copy.old ≤ length copy.new }
-        ensures err { OnErr result ((s : P.Site) → shows self.old s → shows self.new s) }
+        ensures err { OnErr result (seen self.new ≡ seen self.old) }
         ensures err_sent { OnErr result (copy.new ≡ copy.old) };
 
     /// How each rule stands at each open node, the nodes in order.
-    fn list(&self, accepted: &Accepted) -> Result<Worklist, AllocError>
-        requires { same_grammar (its_grammar self.now) (grammar_of accepted.now.grammar) ≡ true }
-        ensures { IfOk result (λ items. (s : P.Site) → shows self.now s → list_map item_of items ≡ site_worklist (grammar_of accepted.now.grammar) s.equations s.held) };
+    fn list(&self) -> Result<Worklist, AllocError>
+        ensures { IfOk result (λ items. list_map item_of items ≡ site_worklist (its_grammar self.now) (seen self.now).equations (seen self.now).held) };
 
     /// The nodes that it holds, in order.
     fn nodes(&self) -> &Holding
@@ -117,10 +108,10 @@ pub trait Workspace: Drop {
         ensures names { names.new.grammar.now ≡ names.old.grammar.now }
         ensures ready { keeps self.now accepted.now.grammar report.new printer.new }
         ensures grows { HasGrown report.old report.new }
-        ensures prints { (s : P.Site) → shows self.now s → PrintsRow accepted.now.grammar s place report.old report.new result };
+        ensures prints { PrintsRow accepted.now.grammar (seen self.now) place report.old report.new result };
 
-    /// Each site that it can be seen as has its role.
-    ghost has_role: { (w : Self) (s : P.Site) → shows w s → s.role ≡ its_role w };
+    /// The site has its role.
+    ghost has_role: { (w : Self) → (seen w).role ≡ its_role w };
 
     /// Its nodes are in the order of their names.
     ghost in_order: { (w : Self) → IsInOrder (its_nodes w) };
@@ -131,8 +122,8 @@ pub trait Workspace: Drop {
     /// What a printer keeps stays so where its report grows, as by lines of other workspaces.
     ghost keeps_on: { (w : Self) (g : GrammarValue) (old new : Bounded) (p : PrinterValue) → HasGrown old new → keeps w g old p → keeps w g new p };
 
-    /// Each site that it can be seen as holds its nodes.
-    ghost holds: { (w : Self) (s : P.Site) → shows w s → s.held ≡ all_of (its_grammar w) (its_nodes w) };
+    /// The site holds its nodes.
+    ghost holds: { (w : Self) → (seen w).held ≡ all_of (its_grammar w) (its_nodes w) };
 }
 
 /// A workspace that can be made for a grammar.
@@ -146,5 +137,5 @@ pub trait Made<'g>: Workspace {
     ) -> Result<Self, AllocError>
         ensures grammar { IfOk result (λ w. same_grammar (Self.its_grammar w) (grammar_of accepted.now.grammar) ≡ true) }
         ensures role { IfOk result (λ w. Self.its_role w ≡ role) }
-        ensures shows { IfOk result (λ w. Self.shows w (P.empty_site loads role)) };
+        ensures shows { IfOk result (λ w. Self.seen w ≡ P.empty_site loads role) };
 }

@@ -36,9 +36,9 @@ use Rattle.aw_world.specs.Opened.{AreAllInOrder}
 use Rattle.aw_world.specs.Shown.{Shows}
 use Rattle.aw_world.proofs.Gathered.{gathered}
 use Rattle.aw_world.proofs.Lines.{told_here}
-use Rattle.aw_world.proofs.Pairings.{pairs_length}
+use Rattle.aw_world.proofs.Pairings.{map_got}
 use Rattle.aw_world.proofs.RowsAt.{order_length, stood}
-use Rattle.aw_world.proofs.WorldFacts.{reached_homes, site_there}
+use Rattle.aw_world.proofs.WorldFacts.{reached_homes}
 use Rattle.aw_world_waits.specs.declared.pair.Pair.{Pair}
 use Rattle.aw_world_waits.specs.declared.waiter.Waiter.{Waiter}
 use Rattle.aw_world_waits.specs.Waiters.{waited_in, holds_done, is_developed}
@@ -73,13 +73,13 @@ module _ {W : Type 0} (f : Ghosts W) (w : World W f) where
 
   -- as many sites as roles
   pub site_count : (v : V.World) → Shows f w v → length v.sites ≡ p.roles
-  site_count v S = sym (pairs_length (λ x s. f.shows x s) w.sites.items v.sites S.sites) ∙ w.placed.count
+  site_count v S = ap (λ (u : V.World). length u.sites) (sym S) ∙ length-map w.sites.items (λ x. f.seen x) ∙ w.placed.count
 
   -- the pairs that are told stand in the undivided configuration
   pub stand : (ps : List Pair) → ((v : V.World) → Shows f w v → ps ≡ waiting p v) → StandThere p (map choice_of w.taken.items) ps
   stand ps exact c e n m told = by_events ∥ WaitsFor p c n m ∥₁ ∥∥₁_prop (λ words a es may S.
       let v = world_after p w.loads es in
-      ∣ pairs_stand words p a w.loads es may c (ap (undivided p []) S.taken ∙ e) n m (subst (λ ps. IsTold ps n m) (exact v S) told) ∣₁)
+      ∣ pairs_stand words p a w.loads es may c (ap (λ (u : V.World). undivided p [] u.taken) (sym S) ∙ e) n m (subst (λ ps. IsTold ps n m) (exact v S) told) ∣₁)
 
   pub no_circle : (ps : List Pair) → ((v : V.World) → Shows f w v → ps ≡ waiting p v) → IsFreeOfWaiting p → HaveNoCircle ps
   no_circle ps exact free n t = by_events Never never_prop (λ words a es may S.
@@ -92,19 +92,19 @@ module _ {W : Type 0} (f : Ghosts W) (w : World W f) where
       let count = site_count v S in
       let past : slice_get v.sites (home p n) ≡ None = slice_get_past v.sites (home p n) (omega (arith, l, count)) in
       let none : site_at v (home p n) ≡ empty_site false (home p n) = get_none (empty_site false (home p n)) v.sites (home p n) past in
-      ap (λ (s : Site). holds_done n s.held) (sym none) ∙ sym (developed_is_done words p a w.loads es may n) ∙ ap (λ cs. is_developed cs n) S.taken)
+      ap (λ (s : Site). holds_done n s.held) (sym none) ∙ sym (developed_is_done words p a w.loads es may n) ∙ ap (λ (u : V.World). is_developed u.taken n) (sym S))
 
-  module _ (hold : (x : W) (s : Site) → f.shows x s → s.held ≡ all_of (f.its_grammar x) (f.its_nodes x)) where
+  module _ (hold : (x : W) → (f.seen x).held ≡ all_of (f.its_grammar x) (f.its_nodes x)) where
     -- what a workspace holds
-    pub held_there : (v : V.World) (role : ℕ) (x : W) → f.shows x (site_at v role) → f.its_grammar x ≡ p → (site_at v role).held ≡ all_of p (f.its_nodes x)
-    held_there v role x shown same = hold x (site_at v role) shown ∙ ap (λ g. all_of g (f.its_nodes x)) same
+    pub held_there : (v : V.World) (role : ℕ) (x : W) → f.seen x ≡ site_at v role → f.its_grammar x ≡ p → (site_at v role).held ≡ all_of p (f.its_nodes x)
+    held_there v role x shown same = ap (λ (s : Site). s.held) (sym shown) ∙ hold x ∙ ap (λ g. all_of g (f.its_nodes x)) same
 
     -- a choice was taken on a node where its home holds it as developed
-    pub developed_there : (n : Node) (x : W) → ((v : V.World) → Shows f w v → f.shows x (site_at v (home p n))) → f.its_grammar x ≡ p →
+    pub developed_there : (n : Node) (x : W) → ((v : V.World) → Shows f w v → f.seen x ≡ site_at v (home p n)) → f.its_grammar x ≡ p →
         holds_done n (all_of p (f.its_nodes x)) ≡ is_developed (map choice_of w.taken.items) n
     developed_there n x shown same = by_events _ (Bool-set _ _) (λ words a es may S.
         let v = world_after p w.loads es in
-        ap (holds_done n) (sym (held_there v (home p n) x (shown v S) same)) ∙ sym (developed_is_done words p a w.loads es may n) ∙ ap (λ cs. is_developed cs n) S.taken)
+        ap (holds_done n) (sym (held_there v (home p n) x (shown v S) same)) ∙ sym (developed_is_done words p a w.loads es may n) ∙ ap (λ (u : V.World). is_developed u.taken n) (sym S))
 
     -- where all places were passed, nothing is left
     pub all_passed : (spots : List Spot) → AreAllInOrder f w.sites.items spots → (i : ℕ) → length spots ≤ i → (ps : List Pair) → (v : V.World) → Shows f w v
@@ -112,7 +112,7 @@ module _ {W : Type 0} (f : Ghosts W) (w : World W f) where
     all_passed spots order i l ps v S so =
         let ws = w.sites.items in
         let homes = reached_homes f w.accepted.now w.loads ws w.messages w.marks.delivered.items w.taken.items w.reached hold w.placed in
-        let n = order_length f hold w.accepted.now.grammar ws w.placed homes v S.sites spots order in
+        let n = order_length f hold w.accepted.now.grammar ws w.placed homes v (ap (λ (u : V.World). u.sites) S) spots order in
         let none : drop i (gather v.sites) ≡ [] = drop_all i (gather v.sites) (omega (arith, l, n)) in
         sym (append-nil ps) ∙ ap (λ hs. ps ++ pairs_of v.taken (own_items p v hs)) (sym none) ∙ so
 
@@ -126,13 +126,13 @@ module _ {W : Type 0} (f : Ghosts W) (w : World W f) where
           let ws = w.sites.items in
           let (h, e, k) = told_here (held_at f ws) spots (merged (nodes_of f ws)) i s order is in
           let here : slice_get (gather v.sites) i ≡ Some (held_of p h) =
-          ap (λ hs. slice_get hs i) (gathered f hold p ws v.sites w.placed.grammar S.sites) ∙ slice_get-map (held_of p) (merged (nodes_of f ws)) i ∙ ap (option_map (held_of p)) k in
+          ap (λ (u : V.World). slice_get (gather u.sites) i) (sym S) ∙ ap (λ hs. slice_get hs i) (gathered f hold p ws w.placed.grammar)
+          ∙ slice_get-map (held_of p) (merged (nodes_of f ws)) i ∙ ap (option_map (held_of p)) k in
           let (x, at, place) = stood f ws s h e in
           let homes = reached_homes f w.accepted.now w.loads ws w.messages w.marks.delivered.items w.taken.items w.reached hold w.placed in
-          let (t, site, shows) = site_there (λ x y. f.shows x y) ws v.sites s.site x S.sites at in
-          let mine : site_at v s.site ≡ t = got_site (empty_site false s.site) v.sites s.site t site in
+          let mine : site_at v s.site ≡ f.seen x = ap (λ (u : V.World). site_at u s.site) (sym S) ∙ map_got (λ y. f.seen y) (empty_site false s.site) ws s.site x at in
           let held : (site_at v s.site).held ≡ all_of p (f.its_nodes x) =
-          ap (λ (t : Site). t.held) mine ∙ hold x t shows ∙ ap (λ z. all_of z (f.its_nodes x)) (grammars_are_one (f.its_grammar x) p (w.placed.grammar s.site x at)) in
+          ap (λ (t : Site). t.held) mine ∙ hold x ∙ ap (λ z. all_of z (f.its_nodes x)) (grammars_are_one (f.its_grammar x) p (w.placed.grammar s.site x at)) in
           let l = slice_get_within ws s.site x at in
           let n = w.placed.count in (
             held_of p h,
@@ -177,7 +177,7 @@ module _ {W : Type 0} (f : Ghosts W) (w : World W f) where
           ∙ sym (slice_get-map (waiter_at p k) (site_at v s.site).held s.place) ∙ ap (λ xs. slice_get xs s.place) same ∙ at) in
           let items = open_items p h.state (site_at v (home p h.node)).equations h in
           let ours : pairs_with (map choice_of w.taken.items) x.node x.on ≡ pairs_of v.taken items =
-          (λ t. pairs_with ((sym S.taken) t) ((sym own) t).node ((sym own) t).on)
+          (λ t. pairs_with (S t).taken ((sym own) t).node ((sym own) t).on)
           ∙ (λ t. pairs_with v.taken h.node (waited_in (open_items p h.state (site_at v ((sym at_home) t)).equations h)))
           ∙ sym (pairs_one v.taken h.node items (λ y m. own_node p h.state (site_at v (home p h.node)).equations h y m)) in
           ap (λ ps. ps ++ pairs_of v.taken (own_items p v later)) (more ∙ ap (λ ps. old ++ ps) ours)

@@ -18,40 +18,40 @@ regroup before front text rest whole e =
 
 pub returns-in_err-print_next-clause-hands : goal.returns-in_err-print_next-clause-hands
 returns-in_err-print_next-clause-hands g c = record {
-  text = λ s shown texts p.
+  text = λ texts p.
       let d = c.args.accepted.now.grammar in
       let w = c.args.site.now in
       let before = c.args.lines.now.report.text in
       let i = c.loop-place.place in
-      let many = ap length (g.met.W.Workspace.holds w s shown) ∙ length-map (g.W.Workspace.its_nodes w) (held_of (g.W.Workspace.its_grammar w)) in
+      let many = ap length (g.met.W.Workspace.holds w) ∙ length-map (g.W.Workspace.its_nodes w) (held_of (g.W.Workspace.its_grammar w)) in
       let nodes = ap length c.nodes.ensures in
-      let (h, at) = some-at s.held i (omega (arith, many, nodes)) in
-      let (front, f, handed) = c.loop-place.invariant.handed s shown texts p in
-      let (text, told, k) = front-more (IsTold d c.args.view.now s.equations) s.held texts i (i + 1) h front p at refl f in
+      let (h, at) = some-at (g.W.Workspace.seen c.args.site.now).held i (omega (arith, many, nodes)) in
+      let (front, f, handed) = c.loop-place.invariant.handed texts p in
+      let (text, told, k) = front-more (IsTold d c.args.view.now (g.W.Workspace.seen c.args.site.now).equations) (g.W.Workspace.seen c.args.site.now).held texts i (i + 1) h front p at refl f in
       hands-stop (g.K.Sink.written c.args.out.now) (g.K.Sink.written c.loop-place.out) (g.K.Sink.written c.print_next.new.out) c.loop-place.lines.report.text (before ++ front) text (concat (drop
       (i + 1) texts)) (before ++ concat texts)
       c.print_next.new.lines.report.text c.print_next.new.lines.report.text c.print_next.result c.from_residual.result _ (regroup before front text (concat (drop (i + 1) texts))
       (concat texts) k.whole)
-      c.in_err-print_next.was (search rules) handed (c.print_next.ensures.hands.text s shown h at text told);
-  long = λ s shown. tells-passed (TellsTask c.args.accepted.now.grammar c.args.view.now s) c.print_next.result c.from_residual.result _ c.in_err-print_next.was (search rules)
-      (c.in_err-print_next.ensures.hands.long s shown);
+      c.in_err-print_next.was (search rules) handed (c.print_next.ensures.hands.text h at text told);
+  long = tells-passed (TellsTask c.args.accepted.now.grammar c.args.view.now (g.W.Workspace.seen c.args.site.now)) c.print_next.result c.from_residual.result _ c.in_err-print_next.was (search rules)
+      c.in_err-print_next.ensures.hands.long;
 }
 
 pub loop-place-preserved : goal.loop-place-preserved
 loop-place-preserved g c = record {
   ready = c.in_ok-print_next.ensures.ready;
   counts = c.in_ok-print_next.ensures.counts ∙ c.loop-place.invariant.counts;
-  handed = λ s shown texts p.
+  handed = λ texts p.
       let d = c.args.accepted.now.grammar in
       let w = c.args.site.now in
       let before = c.args.lines.now.report.text in
       let i = c.loop-place.place in
-      let many = ap length (g.met.W.Workspace.holds w s shown) ∙ length-map (g.W.Workspace.its_nodes w) (held_of (g.W.Workspace.its_grammar w)) in
+      let many = ap length (g.met.W.Workspace.holds w) ∙ length-map (g.W.Workspace.its_nodes w) (held_of (g.W.Workspace.its_grammar w)) in
       let nodes = ap length c.nodes.ensures in
-      let (h, at) = some-at s.held i (omega (arith, many, nodes)) in
-      let (front, f, handed) = c.loop-place.invariant.handed s shown texts p in
-      let (text, told, k) = front-more (IsTold d c.args.view.now s.equations) s.held texts i (i + 1) h front p at refl f in
-      let one = c.in_ok-print_next.ensures.hands.text s shown h at text told in (
+      let (h, at) = some-at (g.W.Workspace.seen c.args.site.now).held i (omega (arith, many, nodes)) in
+      let (front, f, handed) = c.loop-place.invariant.handed texts p in
+      let (text, told, k) = front-more (IsTold d c.args.view.now (g.W.Workspace.seen c.args.site.now).equations) (g.W.Workspace.seen c.args.site.now).held texts i (i + 1) h front p at refl f in
+      let one = c.in_ok-print_next.ensures.hands.text h at text told in (
         front ++ text,
         k,
         hands-as (g.K.Sink.written c.args.out.now) (g.K.Sink.written c.print_next.new.out) c.print_next.new.lines.report.text ((before ++ front) ++ text) (before ++ (front ++ text))
@@ -63,16 +63,16 @@ loop-place-preserved g c = record {
 
 pub returns-clause-hands : goal.returns-clause-hands
 returns-clause-hands g c = record {
-  text = λ s shown texts p.
+  text = λ texts p.
       let w = c.args.site.now in
       let before = c.args.lines.now.report.text in
       let i = c.loop-place.place in
-      let many = ap length (g.met.W.Workspace.holds w s shown) ∙ length-map (g.W.Workspace.its_nodes w) (held_of (g.W.Workspace.its_grammar w)) in
+      let many = ap length (g.met.W.Workspace.holds w) ∙ length-map (g.W.Workspace.its_nodes w) (held_of (g.W.Workspace.its_grammar w)) in
       let nodes = ap length c.nodes.ensures in
-      let paired = pairs_length (IsTold c.args.accepted.now.grammar c.args.view.now s.equations) s.held texts p in
-      let (front, f, handed) = c.loop-place.invariant.handed s shown texts p in
+      let paired = pairs_length (IsTold c.args.accepted.now.grammar c.args.view.now (g.W.Workspace.seen c.args.site.now).equations) (g.W.Workspace.seen c.args.site.now).held texts p in
+      let (front, f, handed) = c.loop-place.invariant.handed texts p in
       let none : drop i texts ≡ [] = drop_all texts i (omega (arith, many, nodes, paired, c.loop-place-test.false)) in
       hands-as (g.K.Sink.written c.args.out.now) (g.K.Sink.written c.loop-place.out) c.loop-place.lines.report.text (before ++ front) (before ++ concat texts)
       (ap (λ (t : List ℕ). before ++ t) (sym (front-all texts i front none f ∙ append-nil front))) handed;
-  long = λ s shown. tt;
+  long = tt;
 }

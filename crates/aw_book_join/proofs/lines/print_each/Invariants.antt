@@ -1,6 +1,5 @@
 use Rattle.std.proofs.Common.{◌≡◌, ℕ, List, ◌++◌}
 use Rattle.aw_accept.specs.Acyclic.{Pairs}
-use Rattle.aw_law_sites.specs.Sites.{Site}
 use Rattle.aw_book_join.specs.Handing.{HandsOn}
 use Rattle.aw_book_join.specs.Lines.{IsReady, IsTold}
 use Rattle.aw_book_join.proofs.Texts.{AreFront}
@@ -11,6 +10,6 @@ abbrev pub invariant-loop-place : goal.invariant-loop-place
 invariant-loop-place g l = record {
   ready : IsReady g.W.Workspace l.site l.accepted.grammar l.lines;
   counts : g.K.Sink.faults l.out ≡ g.K.Sink.faults l.initial.out;
-  handed : (s : Site) → g.W.Workspace.shows l.site s → (texts : List (List ℕ)) → Pairs (IsTold l.accepted.grammar l.view s.equations) s.held texts →
+  handed : (texts : List (List ℕ)) → Pairs (IsTold l.accepted.grammar l.view (g.W.Workspace.seen l.site).equations) (g.W.Workspace.seen l.site).held texts →
       (front : List ℕ) × AreFront texts l.place front × HandsOn (g.K.Sink.written l.initial.out) (g.K.Sink.written l.out) l.lines.report.text (l.initial.lines.report.text ++ front);
 }

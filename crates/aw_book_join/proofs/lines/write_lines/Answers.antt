@@ -19,12 +19,12 @@ returns-in_err-write_all-clause-writes g c =
     let left = c.print_each.new.lines.report.text in
     let is : c.from_residual-in_err-write_all.result ≡ Err WriteFault = search rules in
     record {
-      text = λ s shown texts p.
+      text = λ texts p.
           let none = ap (λ (x : Bounded). x.text) c.new-lines.ensures.report in
-          let handed = subst (λ (t : List ℕ). HandsOn a b left (t ++ concat texts)) none (c.in_ok-print_each.ensures.hands.text s shown texts p) in
+          let handed = subst (λ (t : List ℕ). HandsOn a b left (t ++ concat texts)) none (c.in_ok-print_each.ensures.hands.text texts p) in
           let part = subst (λ (t : List ℕ). GetsPrefix b z t) c.bytes.ensures.text c.in_err-write_all.ensures.prefix in
           writes-err a z (concat texts) c.from_residual-in_err-write_all.result WriteFault is (ends-within a b z left (concat texts) handed part);
-      long = λ s shown. subst (λ (x : Result Unit TasksFault). IfErr x (TellsTask c.args.accepted.now.grammar c.args.view.now s)) (sym is) tt;
+      long = subst (λ (x : Result Unit TasksFault). IfErr x (TellsTask c.args.accepted.now.grammar c.args.view.now (g.W.Workspace.seen c.args.site.now))) (sym is) tt;
     }
 
 pub returns-clause-writes : goal.returns-clause-writes
@@ -34,10 +34,10 @@ returns-clause-writes g c =
     let z = g.K.Sink.written c.write_all.new.out in
     let left = c.print_each.new.lines.report.text in
     record {
-      text = λ s shown texts p.
+      text = λ texts p.
           let none = ap (λ (x : Bounded). x.text) c.new-lines.ensures.report in
-          let handed = subst (λ (t : List ℕ). HandsOn a b left (t ++ concat texts)) none (c.in_ok-print_each.ensures.hands.text s shown texts p) in
+          let handed = subst (λ (t : List ℕ). HandsOn a b left (t ++ concat texts)) none (c.in_ok-print_each.ensures.hands.text texts p) in
           let all = subst (λ (t : List ℕ). Gets b z t) c.bytes.ensures.text c.in_ok-write_all.ensures.all in
           ends-with a b z left (concat texts) handed all;
-      long = λ s shown. tt;
+      long = tt;
     }

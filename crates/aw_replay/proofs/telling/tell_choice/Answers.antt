@@ -21,7 +21,7 @@ returns-clause-text g c = on_ok_weaker c.push_chosen.result (λ e v S.
     (choice_of c.get.result.now) (reply_of c.in_ok-reply.reply) v (V.step (grammar_of w.accepted.now.grammar) v
     (V.Chooses (choice_of c.in_ok-copy.copy))) (length c.messages-before.result.now) _ T.reply
     (T.world.messages ∙ ap (λ ms. map (message_of (grammar_of c.step.new.self.accepted.now.grammar)) ms) (sym c.messages.ensures))
-    (ap length S.messages ∙ length-map w.messages (message_of (grammar_of w.accepted.now.grammar)) ∙ ap length (sym c.messages-before.ensures))
+    (ap (λ (u : V.World). length u.messages) (sym S) ∙ length-map w.messages (message_of (grammar_of w.accepted.now.grammar)) ∙ ap length (sym c.messages-before.ensures))
     ∙ ap (λ z. move_lines (words_of w.accepted.now.grammar) v (V.Chooses (choice_of c.get.result.now)) (V.step (grammar_of w.accepted.now.grammar) v
     (V.Chooses (choice_of z)))) c.in_ok-copy.ensures.cases
     ∙ ap (λ z. move_lines (words_of w.accepted.now.grammar) v (V.Chooses (choice_of z)) (V.step (grammar_of w.accepted.now.grammar) v

@@ -51,14 +51,14 @@ loop-number-preserved g c =
           let u = V.settle m p v in
           let b = bound_of p v.taken in
           let t : bound_of (grammar_of x.accepted.now.grammar) (map choice_of x.taken.items) ≡ b =
-          ap (λ (a : Accepted). bound_of (grammar_of a.grammar) (map choice_of x.taken.items)) ea ∙ ap (bound_of p) (sym (so v s).taken ∙ settle_taken p n v) in
+          ap (λ (a : Accepted). bound_of (grammar_of a.grammar) (map choice_of x.taken.items)) ea ∙ ap (bound_of p) (ap (λ (u : V.World). u.taken) (so v s) ∙ settle_taken p n v) in
           let l = bounded g.W.Workspace x in
           let told : c.tell_delivery.new.text ≡ c.loop-number.text ++ move_lines (words_of d) u (V.Delivers k) (V.deliver p u k) =
           c.in_ok-tell_delivery.ensures.text u (i.settled v s) ∙ ap (λ (a : Accepted). c.loop-number.text ++ move_lines (words_of a.grammar) u
           (V.Delivers k) (V.deliver (grammar_of a.grammar) u k)) i.accepted in
           ap (λ z. z ++ settle_lines (b - n) n (words_of d) p (V.settle n p v)) told
           ∙ append_assoc c.loop-number.text (move_lines (words_of d) u (V.Delivers k) (V.deliver p u k)) (settle_lines (b - n) n (words_of d) p (V.settle n p v))
-          ∙ ap (λ z. c.loop-number.text ++ z) (lines_more (words_of d) p v b m n k (ap (V.first_false 0) (i.settled v s).delivered ∙ first) en (omega (arith, l, t)))
+          ∙ ap (λ z. c.loop-number.text ++ z) (lines_more (words_of d) p v b m n k (ap V.undelivered (sym (i.settled v s)) ∙ first) en (omega (arith, l, t)))
           ∙ i.lines v s;
     }
 
@@ -73,13 +73,13 @@ returns-in_err-tell_delivery-clause-some g c =
     let b = room_left g.W.Workspace w k (sym c.quiet.ensures ∙ c.in-Some.is) in
     let kept : SettlesSome g.W.Workspace c.args.world.now x = λ v s.
     let t : bound_of (grammar_of w.accepted.now.grammar) (map choice_of w.taken.items) ≡ bound_of p v.taken =
-    ap (λ (a : Accepted). bound_of (grammar_of a.grammar) (map choice_of w.taken.items)) i.accepted ∙ ap (bound_of p) (sym (i.settled v s).taken ∙ settle_taken p m v) in
+    ap (λ (a : Accepted). bound_of (grammar_of a.grammar) (map choice_of w.taken.items)) i.accepted ∙ ap (bound_of p) (ap (λ (u : V.World). u.taken) (i.settled v s) ∙ settle_taken p m v) in
     elim (c.in_err-tell_delivery.ensures.some (V.settle m p v) (i.settled v s)) [
       | inl S ↦ (m, omega (arith, b, t), S)
       | inr S ↦ (
         suc m,
         omega (arith, b, t),
-        subst (Shows g.W.Workspace x) (sym (settle_more p m v k (ap (V.first_false 0) (i.settled v s).delivered ∙ (sym c.quiet.ensures ∙ c.in-Some.is))))
+        subst (Shows g.W.Workspace x) (sym (settle_more p m v k (ap V.undelivered (sym (i.settled v s)) ∙ (sym c.quiet.ensures ∙ c.in-Some.is))))
             (subst (λ (a : Accepted). Shows g.W.Workspace x (V.deliver (grammar_of a.grammar) (V.settle m p v) k).world) i.accepted S),
       )
     ] in
@@ -102,7 +102,7 @@ returns-clause-text g c = on_ok_weaker c.push_settled.result (λ e v s.
     let b = bound_of p v.taken in
     let ec : c.delivered.result - c.delivered-before.result ≡ m = omega (arith, c.delivered.ensures, c.delivered-before.ensures) in
     e ∙ ap (λ j. c.loop-number.text ++ (codes "settled " ++ (decimal j ++ codes "\n"))) ec
-    ∙ ap (λ z. c.loop-number.text ++ z) (sym (lines_end (words_of d) p (V.settle m p v) (b - m) m (ap (V.first_false 0) (i.settled v s).delivered ∙ (sym c.quiet.ensures ∙ c.in_default.is))))
+    ∙ ap (λ z. c.loop-number.text ++ z) (sym (lines_end (words_of d) p (V.settle m p v) (b - m) m (ap V.undelivered (sym (i.settled v s)) ∙ (sym c.quiet.ensures ∙ c.in_default.is))))
     ∙ i.lines v s) c.push_settled.ensures
 
 pub returns-clause-some : goal.returns-clause-some
@@ -114,7 +114,7 @@ returns-clause-some g c =
     let b = bounded g.W.Workspace w in
     let kept : SettlesSome g.W.Workspace c.args.world.now w = λ v s.
     let t : bound_of (grammar_of w.accepted.now.grammar) (map choice_of w.taken.items) ≡ bound_of p v.taken =
-    ap (λ (a : Accepted). bound_of (grammar_of a.grammar) (map choice_of w.taken.items)) i.accepted ∙ ap (bound_of p) (sym (i.settled v s).taken ∙ settle_taken p m v) in
+    ap (λ (a : Accepted). bound_of (grammar_of a.grammar) (map choice_of w.taken.items)) i.accepted ∙ ap (bound_of p) (ap (λ (u : V.World). u.taken) (i.settled v s) ∙ settle_taken p m v) in
     (m, omega (arith, b, t), i.settled v s) in
     on_err _ kept
 

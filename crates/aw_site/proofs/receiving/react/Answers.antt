@@ -10,6 +10,7 @@ use Rattle.aw_site_repeat.specs.Holders.{IsOfRole}
 use Rattle.aw_site.specs.Shown.{HoldsAs, Shows}
 use Rattle.aw_site.proofs.Coming.{call_fits, tell_fits, call_clashes, tell_clashes, fresh_ok, fresh_mine, fresh_free, reacts_to_call, reacts_to_tell, on_ok}
 use Rattle.aw_site.proofs.Holding.{of_role}
+use Rattle.aw_site.proofs.SeenParts.{held_seen}
 use Rattle.aw_site.proofs.receiving.react.Goals as goal
 
 pub take_in-count-requires-clause-call : goal.take_in-count-requires-clause-call
@@ -18,9 +19,10 @@ take_in-count-requires-clause-call g c =
     let role = c.args.space.now.role in
     let m = message_of gr c.args.m.now in
     let holds = HoldsAs g.F.Facts c.args.space.now c.args.subs.now c.args.loads in
+    let held = held_seen g.F.Facts c.args.space.now c.args.subs.now c.args.loads in
     (call_fits gr role c.args.m.now c.in-Call.node _ c.in-Call.inherited _ c.in-Call.load c.args.es (sym c.get.ensures ∙ c.in-Call.is)
     c.in-Ok.ensures.node c.in-Ok.ensures.inherited (c.requires.carried gr)
-    (fresh_ok gr role holds m c.requires.holds (λ s h. h.role) c.requires.fresh) (fresh_mine gr role holds m c.requires.holds (λ s h. h.role) c.requires.fresh)).0
+    (fresh_ok gr role holds m held (λ s h. h.role) c.requires.fresh) (fresh_mine gr role holds m held (λ s h. h.role) c.requires.fresh)).0
 
 pub take_in-count-requires-clause-ok : goal.take_in-count-requires-clause-ok
 take_in-count-requires-clause-ok g c =
@@ -28,16 +30,18 @@ take_in-count-requires-clause-ok g c =
     let role = c.args.space.now.role in
     let m = message_of gr c.args.m.now in
     let holds = HoldsAs g.F.Facts c.args.space.now c.args.subs.now c.args.loads in
+    let held = held_seen g.F.Facts c.args.space.now c.args.subs.now c.args.loads in
     (call_fits gr role c.args.m.now c.in-Call.node c.in-Ok.placing.node c.in-Call.inherited c.in-Ok.placing.inherited c.in-Call.load c.args.es
     (sym c.get.ensures ∙ c.in-Call.is) c.in-Ok.ensures.node c.in-Ok.ensures.inherited (c.requires.carried gr)
-    (fresh_ok gr role holds m c.requires.holds (λ s h. h.role) c.requires.fresh) (fresh_mine gr role holds m c.requires.holds (λ s h. h.role) c.requires.fresh)).1
+    (fresh_ok gr role holds m held (λ s h. h.role) c.requires.fresh) (fresh_mine gr role holds m held (λ s h. h.role) c.requires.fresh)).1
 
 pub take_in-count-requires-clause-free : goal.take_in-count-requires-clause-free
 take_in-count-requires-clause-free g c =
     let gr = grammar_of c.args.g.now.grammar in
     let role = c.args.space.now.role in
     let holds = HoldsAs g.F.Facts c.args.space.now c.args.subs.now c.args.loads in
-    fresh_free gr role holds (message_of gr c.args.m.now) c.requires.holds (λ s h. h.role) c.requires.fresh (space_seen g.F.Facts c.args.space.now)
+    let held = held_seen g.F.Facts c.args.space.now c.args.subs.now c.args.loads in
+    fresh_free gr role holds (message_of gr c.args.m.now) held (λ s h. h.role) c.requires.fresh (space_seen g.F.Facts c.args.space.now)
     (Some (call_of gr c.in-Ok.placing.node c.in-Ok.placing.inherited)) (map equation_of c.args.es)
     (λ s h. call_clashes gr s (space_seen g.F.Facts c.args.space.now) c.args.m.now.kind c.in-Call.node c.in-Ok.placing.node c.in-Call.inherited c.in-Ok.placing.inherited c.in-Call.load c.args.es
     (sym c.get.ensures ∙ c.in-Call.is) c.in-Ok.ensures.node c.in-Ok.ensures.inherited (c.requires.carried gr) h.holds)
@@ -47,8 +51,9 @@ answer_ask-requires-clause-role g c =
     let gr = grammar_of c.args.g.now.grammar in
     let role = c.args.space.now.role in
     let holds = HoldsAs g.F.Facts c.args.space.now c.args.subs.now c.args.loads in
+    let held = held_seen g.F.Facts c.args.space.now c.args.subs.now c.args.loads in
     subst (λ k. IsOfRole (plain_kind k)) (sym c.get.ensures ∙ c.in-Ask.is) (of_role c.args.g.now.grammar role c.args.m.now
-    (fresh_ok gr role holds (message_of gr c.args.m.now) c.requires.holds (λ s h. h.role) c.requires.fresh))
+    (fresh_ok gr role holds (message_of gr c.args.m.now) held (λ s h. h.role) c.requires.fresh))
 
 pub take_in-requires-clause-ok : goal.take_in-requires-clause-ok
 take_in-requires-clause-ok g c =
@@ -56,15 +61,17 @@ take_in-requires-clause-ok g c =
     let role = c.args.space.now.role in
     let m = message_of gr c.args.m.now in
     let holds = HoldsAs g.F.Facts c.args.space.now c.args.subs.now c.args.loads in
+    let held = held_seen g.F.Facts c.args.space.now c.args.subs.now c.args.loads in
     tell_fits gr role c.args.m.now c.in-Tell.equation c.in-Tell.load c.args.es (sym c.get.ensures ∙ c.in-Tell.is) (c.requires.carried gr)
-    (fresh_ok gr role holds m c.requires.holds (λ s h. h.role) c.requires.fresh) (fresh_mine gr role holds m c.requires.holds (λ s h. h.role) c.requires.fresh)
+    (fresh_ok gr role holds m held (λ s h. h.role) c.requires.fresh) (fresh_mine gr role holds m held (λ s h. h.role) c.requires.fresh)
 
 pub take_in-requires-clause-free : goal.take_in-requires-clause-free
 take_in-requires-clause-free g c =
     let gr = grammar_of c.args.g.now.grammar in
     let role = c.args.space.now.role in
     let holds = HoldsAs g.F.Facts c.args.space.now c.args.subs.now c.args.loads in
-    fresh_free gr role holds (message_of gr c.args.m.now) c.requires.holds (λ s h. h.role) c.requires.fresh (space_seen g.F.Facts c.args.space.now) None (map equation_of c.args.es)
+    let held = held_seen g.F.Facts c.args.space.now c.args.subs.now c.args.loads in
+    fresh_free gr role holds (message_of gr c.args.m.now) held (λ s h. h.role) c.requires.fresh (space_seen g.F.Facts c.args.space.now) None (map equation_of c.args.es)
     (λ s h. tell_clashes gr s (space_seen g.F.Facts c.args.space.now) c.args.m.now.kind c.in-Tell.equation c.in-Tell.load c.args.es (sym c.get.ensures ∙ c.in-Tell.is) (c.requires.carried gr) h.holds)
 
 pub returns-in-Ok-clause-count : goal.returns-in-Ok-clause-count

@@ -10,7 +10,7 @@ use Rattle.aw_law_sites.specs.Choosing as D
 use Rattle.aw_law_worlds.proofs.Sorts.{home_within, choice_node}
 use Rattle.aw_world.specs.declared.moves.Reply.TheVariants as replies
 use Rattle.aw_term.specs.Choices.{is_taken}
-use Rattle.aw_world.specs.Seen.{AnswersAt, Steps}
+use Rattle.aw_world.specs.Seen.{AnswersAt, Steps, world_of}
 use Rattle.aw_world.proofs.Stepping.{chose, honest}
 use Rattle.aw_world.proofs.choosing.choose.Goals as goal
 
@@ -26,10 +26,11 @@ choose_at-requires-clause-at g c =
     omega (arith, e, h, c.requires.placed.count)
 
 pub returns-clause-steps : goal.returns-clause-steps
-returns-clause-steps g c = λ flags l v S.
+returns-clause-steps g c = λ flags l.
     let d = c.args.accepted.now.grammar in
     let p = grammar_of d in
     let x = choice_of c.args.choice in
+    let v = world_of g.W.Workspace d c.args.sites.now.items c.args.messages.now flags c.args.taken.now.items in
     let at = c.from.result in
     let e : at ≡ home p (V.node_of x) = c.from.ensures ∙ c.role_of-at.ensures ∙ ap (λ z. home (grammar_of z) (V.node_of (choice_of c.get-made.result.now))) c.grammar.ensures.value
     ∙ ap (λ y. home p (V.node_of (choice_of y))) c.get-made.ensures in
@@ -41,5 +42,5 @@ returns-clause-steps g c = λ flags l v S.
     subst (λ k. Steps g.W.Workspace d c.choose_at.new.sites.items c.choose_at.new.messages flags c.note.new.taken.items
     (V.chosen_at v k x (D.choose p (V.site_at v k) x)) (replies.Choice c.in_ok-answer.answer)) e
     (chose g.W.Workspace d c.args.sites.now.items c.choose_at.new.sites.items c.args.messages.now c.choose_at.new.messages flags
-    c.args.taken.now.items c.note.new.taken.items c.args.choice c.in_ok-answer.answer v at _
-    (honest p (V.site_at v at) x) (answers v.sites S.sites) noted l S)
+    c.args.taken.now.items c.note.new.taken.items c.args.choice c.in_ok-answer.answer at _
+    (honest p (V.site_at v at) x) answers noted l)

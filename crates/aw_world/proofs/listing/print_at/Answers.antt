@@ -1,8 +1,8 @@
-use Rattle.std.proofs.Common.{◌<◌, false, arith, length, refl}
+use Rattle.std.proofs.Common.{◌<◌, false, arith, length, refl, subst, sym}
 use Rattle.std.proofs.lemmas.Option.{slice_get_read}
-use Rattle.aw_law_sites.specs.Sites.{empty_site}
-use Rattle.aw_term.specs.Rules.{get}
-use Rattle.aw_world.proofs.Pairings.{pairs_at, pairs_length}
+use Rattle.aw_law_sites.specs.Sites.{Site, empty_site}
+use Rattle.aw_world.specs.PrintedRows.{PrintsRow}
+use Rattle.aw_world.proofs.Pairings.{map_at, pairs_length}
 use Rattle.aw_world.proofs.Printers.{pairs_got, pairs_renewed, place_within, keep_on}
 use Rattle.aw_world.proofs.RowsAt.{stood_within}
 use Rattle.aw_world.proofs.listing.print_at.Goals as goal
@@ -54,8 +54,9 @@ returns-clause-ready g c =
     (slice_get_read sites (length sites) at c.index-sites-spot.result refl within c.index-sites-spot.is) c.print_row.ensures.ready
 
 pub returns-clause-prints : goal.returns-clause-prints
-returns-clause-prints g c = λ ss shown.
+returns-clause-prints g c =
     let at = c.args.spot.now.site in
-    c.print_row.ensures.prints (get (empty_site false at) ss at)
-    (pairs_at (λ x s. g.W.Workspace.shows x s) (empty_site false at) c.args.sites.now ss at c.index-sites-spot.result shown
-    (stood_within g.W.Workspace c.args.sites.now c.args.spot.now c.requires.there) c.index-sites-spot.is)
+    subst (λ (s : Site). PrintsRow c.args.accepted.now.grammar s c.args.spot.now.place c.args.report.now c.print_row.new.report c.print_row.result)
+    (sym (map_at (λ w. g.W.Workspace.seen w) (empty_site false at) c.args.sites.now at c.index-sites-spot.result
+    (stood_within g.W.Workspace c.args.sites.now c.args.spot.now c.requires.there) c.index-sites-spot.is))
+    c.print_row.ensures.prints

@@ -28,7 +28,7 @@ returns-in_err-print_at g c = λ v shown rows read.
     let i = c.loop-spot.spot-index in
     let is = slice_get-get_or c.args.spots.now i (record { site = 0; place = 0 }) c.loop-spot-test.true in
     let (q, dropped, printed) = row_at f g.met.W.Workspace.holds d c.args.sites.now c.requires.placed c.requires.homes v shown c.args.spots.now
-    c.requires.order rows read i _ is c.loop-spot.report c.print_at.new.report c.print_at.result (c.print_at.ensures.prints v.sites shown) in
+    c.requires.order rows read i _ is c.loop-spot.report c.print_at.new.report c.print_at.result c.print_at.ensures.prints in
     c.loop-spot.invariant.prints v shown rows read c.print_at.new.report c.from_residual.result
     (stops (artifact_text (words_of d) (drop i rows)) (row_text (words_of d) q) (artifact_text (words_of d) (drop (i + 1) rows)) c.loop-spot.report
     c.print_at.new.report c.print_at.result c.from_residual.result _
@@ -44,7 +44,7 @@ loop-spot-preserved g c = record {
       let i = c.loop-spot.spot-index in
       let is = slice_get-get_or c.args.spots.now i (record { site = 0; place = 0 }) c.loop-spot-test.true in
       let (q, dropped, printed) = row_at f g.met.W.Workspace.holds d c.args.sites.now c.requires.placed c.requires.homes v shown c.args.spots.now
-      c.requires.order rows read i _ is c.loop-spot.report c.print_at.new.report c.print_at.result (c.print_at.ensures.prints v.sites shown) in
+      c.requires.order rows read i _ is c.loop-spot.report c.print_at.new.report c.print_at.result c.print_at.ensures.prints in
       c.loop-spot.invariant.prints v shown rows read new r
       (goes_on (artifact_text (words_of d) (drop i rows)) (row_text (words_of d) q) (artifact_text (words_of d) (drop (i + 1) rows)) c.loop-spot.report c.print_at.new.report new c.print_at.result r
       (ap (artifact_text (words_of d)) dropped) c.in_ok-print_at.was printed next);

@@ -1,12 +1,10 @@
-use Rattle.std.proofs.Common.{◌+◌, [], ◌∷◌, ◌++◌, length, map, ap, sym, ◌∙◌, subst, arith, inl, inr}
+use Rattle.std.proofs.Common.{◌+◌, [], ◌∷◌, ◌++◌, length, map, ap, sym, ◌∙◌, arith, inl, inr}
 use Rattle.std.specs.Prelude.{slice_get}
-use Rattle.std.proofs.lemmas.List.{length-append}
-use Rattle.aw_accept.specs.Acyclic.{Pairs}
+use Rattle.std.proofs.lemmas.List.{length-append, map-append}
 use Rattle.aw_grammar.specs.GrammarOf.{grammar_of}
-use Rattle.aw_term.specs.Rules.{upto}
-use Rattle.aw_law_sites.specs.Sites.{Site, empty_site}
+use Rattle.aw_law_sites.specs.Sites.{empty_site}
 use Rattle.aw_term.specs.SameGrammar.{same_grammar}
-use Rattle.aw_world.proofs.Growing.{pairs_end, get_end, all_end}
+use Rattle.aw_world.proofs.Growing.{get_end, all_end}
 use Rattle.aw_world.proofs.making.make_sites.Goals as goal
 
 pub loop-role-preserved : goal.loop-role-preserved
@@ -17,11 +15,11 @@ loop-role-preserved g c =
     let n = c.loop-role.role in
     let f = g.W.Workspace in
     let e = c.in_ok-push.ensures.items in
-    let R : g.row.W.Denot → Site → Type 0 = λ x s. f.shows x s in
     record {
       count = omega (arith, ap length e, length-append ws (x ∷ []), i.count);
-      shown = subst (λ zs. Pairs R zs (map (empty_site c.args.loads) (upto 0 (n + 1)))) (sym e)
-          (subst (Pairs R (ws ++ x ∷ [])) (sym (all_end (empty_site c.args.loads) n)) (pairs_end R ws _ x _ i.shown c.in_ok-make.ensures.shows));
+      shown =
+          ap (map (λ w. f.seen w)) e ∙ map-append (λ w. f.seen w) ws (x ∷ []) ∙ (λ j. i.shown j ++ c.in_ok-make.ensures.shows j ∷ [])
+          ∙ sym (all_end (empty_site c.args.loads) n);
       role = λ j y s. elim (get_end ws x j y (ap (λ zs. slice_get zs j) (sym e) ∙ s)) [
         | inl h ↦ i.role j y h
         | inr h ↦ ap (λ z. f.its_role z) (sym h.1) ∙ c.in_ok-make.ensures.role ∙ sym i.count ∙ sym h.0

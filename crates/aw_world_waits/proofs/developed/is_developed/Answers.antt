@@ -19,7 +19,7 @@ returns-then-from-len g c =
     let same : c.grammar-g.result.now ≡ w.accepted.now.grammar = c.grammar-g.ensures.value ∙ ap (λ a. a.grammar) c.accepted.ensures in
     let at_home : c.unwrap_or-role.result ≡ home p n = c.unwrap_or-role.ensures ∙ ap (λ o. unwrap_or o 0) (c.home_of.ensures.value ∙ ap (λ d. home_of (grammar_of d) n) same) in
     c.holds_done.ensures p ∙ ap (λ hs. holds_done n (all_of p hs)) c.nodes.ensures
-    ∙ developed_there f w g.met.W.Workspace.holds n c.site.result.now (λ v S. subst (λ role. f.shows c.site.result.now (V.site_at v role)) at_home
+    ∙ developed_there f w g.met.W.Workspace.holds n c.site.result.now (λ v S. subst (λ role. f.seen c.site.result.now ≡ V.site_at v role) at_home
     (c.site.ensures.shows v S)) (grammars_are_one _ p c.site.ensures.grammar)
 
 pub returns-else-from-len : goal.returns-else-from-len

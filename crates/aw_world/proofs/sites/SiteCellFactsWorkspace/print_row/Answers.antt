@@ -46,7 +46,7 @@ returns-clause-ready c =
     (subst (λ g. IsReady g ((cells.ghosts).map c.facts.result.now) ((cells.ghosts).names c.facts.result.now) report printer) c.grammar.ensures.value c.print_held.ensures.ready)
 
 pub returns-clause-prints : goal.returns-clause-prints
-returns-clause-prints c = λ s shown p q at read.
+returns-clause-prints c = λ p q at read.
     let space = c.args.self.now.space in
     let h = c.at-held.result.now in
     let d = c.args.accepted.now.grammar in
@@ -54,9 +54,8 @@ returns-clause-prints c = λ s shown p q at read.
     let here = ap (λ xs. slice_get xs c.args.place) (sym (c.nodes.ensures ∙ ap (λ x. x.held.items) c.space-space.ensures)) ∙ c.at-held.ensures in
     let value = c.grammar.ensures.value in
     let same = grammars_are_one _ _ c.requires.grammar ∙ sym (ap grammar_of value) in
-    let node = sym (plain_here (grammar_of space.accepted.now.grammar) space.held.items c.args.place h p here
-    (sym (ap (λ x. slice_get x.held c.args.place) shown.holds.holds) ∙ at)) ∙ ap (λ g. held_of g h) same in
-    let equations = ap (λ x. x.equations) shown.holds.holds ∙ sym (ap (cells.ghosts).map (c.facts.ensures ∙ ap (λ x. x.facts) c.space-space.ensures)) in
+    let node = sym (plain_here (grammar_of space.accepted.now.grammar) space.held.items c.args.place h p here at) ∙ ap (λ g. held_of g h) same in
+    let equations = sym (ap (cells.ghosts).map (c.facts.ensures ∙ ap (λ x. x.facts) c.space-space.ensures)) in
     let at_store = subst (λ m. IsRead (grammar_of d) m p q) equations read in
     let at_node = subst (λ x. IsRead (grammar_of d) k x q) node at_store in
     let at_grammar = subst (λ x. IsRead (grammar_of x) k (held_of (grammar_of c.grammar.result.now) h) q) (sym value) at_node in

@@ -1,7 +1,7 @@
-use Rattle.std.proofs.Common.{sym, subst}
+use Rattle.std.proofs.Common.{◌∙◌, ap, map, sym, subst}
 use Rattle.aw_grammar.specs.GrammarOf.{grammar_of}
 use Rattle.aw_world.specs.Opened.{AreAtHome}
-use Rattle.aw_world.specs.Seen.{ShowEach}
+use Rattle.aw_law_sites.specs.Worlds as V
 use Rattle.aw_world.proofs.QuietRows.{prints_quiet}
 use Rattle.aw_world.proofs.WorldFacts.{reached_homes}
 use Rattle.aw_world.proofs.world.World.print_rows.Goals as goal
@@ -14,9 +14,9 @@ print_all-requires-clause-homes g c =
     (reached_homes f w.accepted.now w.loads w.sites.items w.messages w.marks.delivered.items w.taken.items w.reached g.met.W.Workspace.holds w.placed)
 
 pub returns-clause-prints : goal.returns-clause-prints
-returns-clause-prints g c = λ v S. c.print_all.ensures v (subst (λ ws. ShowEach g.W.Workspace ws v.sites) (sym c.as_slice.ensures.value) S.sites)
+returns-clause-prints g c = λ v S. c.print_all.ensures v (ap (map (λ w. g.W.Workspace.seen w)) c.as_slice.ensures.value ∙ ap (λ (u : V.World). u.sites) S)
 
 pub returns-clause-quiet : goal.returns-clause-quiet
 returns-clause-quiet g c = λ quiet.
     prints_quiet g.W.Workspace c.args.self.now quiet c.args.report.now c.print_all.new.report c.print_all.result
-    (λ v S. c.print_all.ensures v (subst (λ ws. ShowEach g.W.Workspace ws v.sites) (sym c.as_slice.ensures.value) S.sites))
+    (λ v S. c.print_all.ensures v (ap (map (λ w. g.W.Workspace.seen w)) c.as_slice.ensures.value ∙ ap (λ (u : V.World). u.sites) S))
