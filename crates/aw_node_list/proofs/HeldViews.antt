@@ -83,7 +83,8 @@ view_marked g c s (x ∷ xs) zero h up e v =
     ∙ ap (λ (y : Held). map (mark y.node s) (all_of g (x ∷ xs))) same
 view_marked g c s (x ∷ xs) (suc i) h up e v =
     ap (λ z. held_of g x ∷ z) (view_marked g c s xs i h up.1 e v)
-    ∙ ap (λ b. cond b (record (held_of g x) { state = s }) (held_of g x) ∷ map (mark h.node s) (all_of g xs)) (sym (other_before h.node x.node (each_here (λ y. node_lt x.node y.node ≡ true) xs i h up.0 e)))
+    ∙ ap (λ b. cond b (record (held_of g x) { state = s }) (held_of g x) ∷ map (mark h.node s) (all_of g xs))
+    (sym (other_before h.node x.node (each_here (λ y. node_lt x.node y.node ≡ true) xs i h up.0 e)))
 
 each_kept : (P : Node → Type 0) (c : Choice) (hs : List Held) (i : ℕ) → Each (λ y. P y.node) hs → Each (λ y. P y.node) (done_at c i hs)
 each_kept P c [] i each = tt

@@ -37,10 +37,12 @@ use Rattle.aw_standing.specs.Items.{said_refusal, kept_item, SayOf, StandsAt, wa
 use Rattle.aw_standing.proofs.Rising.{rule_among, mark_behind}
 
 -- a refusal that is kept is said by the references of its slots
-pub said : (names : List Ref) (n : Node) (rule : Rule) (s : Stands) (m : Matched Ref Ref) → kept_refusal names s ≡ refusal_of (after_guard n rule (as_named m)) → said_refusal names s ≡ refusal_of (after_guard n rule m)
+pub said : (names : List Ref) (n : Node) (rule : Rule) (s : Stands) (m : Matched Ref Ref) → kept_refusal names s ≡ refusal_of (after_guard n rule (as_named m)) →
+    said_refusal names s ≡ refusal_of (after_guard n rule m)
 said names n rule s (Yes xs) e = by s (deep n rule) e
   where
-    by : (s : Stands) (b : Bool) → kept_refusal names s ≡ refusal_of (cond b (Refused TooDeep) (Takes rule (map Some xs))) → said_refusal names s ≡ refusal_of (cond b (Refused TooDeep) (Takes rule xs))
+    by : (s : Stands) (b : Bool) → kept_refusal names s ≡ refusal_of (cond b (Refused TooDeep) (Takes rule (map Some xs))) →
+        said_refusal names s ≡ refusal_of (cond b (Refused TooDeep) (Takes rule xs))
     by stands.Ready true e = absurd cc
     by stands.Ready false e = refl
     by stands.TooDeep true e = refl
@@ -77,7 +79,8 @@ module _ (g : Grammar) (k : Map) (names : List Ref) (h : Held) where
       next : (m : ℕ) → slice_get rules m ≡ slice_get g.rules (m + suc i)
       next m = at (suc m) ∙ ap (slice_get g.rules) (omega arith)
 
-      by : ((zs : List Mark) → map mark_rule zs ≡ rules_of (sort_or (sort_of g h.node)) (suc i) rules → ((j : ℕ) (m : Mark) → slice_get zs j ≡ Some m → IsTold g k names h m) → map (kept_item names h.node) zs ≡ site_items k (held_of g h) (suc i) rules) →
+      by : ((zs : List Mark) → map mark_rule zs ≡ rules_of (sort_or (sort_of g h.node)) (suc i) rules → ((j : ℕ) (m : Mark) → slice_get zs j ≡ Some m → IsTold g k names h m) →
+          map (kept_item names h.node) zs ≡ site_items k (held_of g h) (suc i) rules) →
           (b : Bool) (ms : List Mark) → map mark_rule ms ≡ cond b (i ∷ rules_of (sort_or (sort_of g h.node)) (suc i) rules) (rules_of (sort_or (sort_of g h.node)) (suc i) rules) →
           ((j : ℕ) (m : Mark) → slice_get ms j ≡ Some m → IsTold g k names h m) →
           map (kept_item names h.node) ms ≡ cond b (site_item k (held_of g h) i rule ∷ site_items k (held_of g h) (suc i) rules) (site_items k (held_of g h) (suc i) rules)
@@ -92,7 +95,8 @@ module _ (g : Grammar) (k : Map) (names : List Ref) (h : Held) where
           λ q. record { node = h.node; rule = number q; refusal = refusal q } ∷ later q
 
   -- the marks of a node are its items in the worklist
-  pub items_kept : (x : Record) → IsOf g names h x → ((j : ℕ) (m : Mark) → slice_get x.marks.items j ≡ Some m → IsTold g k names h m) → map (kept_item names h.node) x.marks.items ≡ open_items g (state_of h.done) k (held_of g h)
+  pub items_kept : (x : Record) → IsOf g names h x → ((j : ℕ) (m : Mark) → slice_get x.marks.items j ≡ Some m → IsTold g k names h m) →
+      map (kept_item names h.node) x.marks.items ≡ open_items g (state_of h.done) k (held_of g h)
   items_kept x o told = by (state_of h.done) (o.rules ∙ ap (λ s. open_rules g s (state_of h.done)) (sym o.sort))
     where
       by : (s : State) → map mark_rule x.marks.items ≡ open_rules g (sort_or (sort_of g h.node)) s → map (kept_item names h.node) x.marks.items ≡ open_items g s k (held_of g h)
@@ -121,7 +125,8 @@ pub items_at : (g : Grammar) (k : Map) (names : List Ref) (hs : List Held) (ns :
 items_at g k names hs ns xs ts at n h x f e u v = items_kept g k names h x (f.of_node at n h x e u v) (λ j m w. f.told at n h x e u v j m w (none_late names m.stands))
 
 -- what the mark of a rule says is how the rule stands at the node at a place
-pub stands_said : (g : Grammar) (k : Map) (names : List Ref) (hs : List Held) (ns : List ℕ) (xs : List Record) (ts : List Triple) (at n : ℕ) (h : Held) (x : Record) (number : ℕ) (s : Standing) → AreKept g hs k names [] ns xs ts →
+pub stands_said : (g : Grammar) (k : Map) (names : List Ref) (hs : List Held) (ns : List ℕ) (xs : List Record) (ts : List Triple) (at n : ℕ) (h : Held) (x : Record) (number : ℕ)
+    (s : Standing) → AreKept g hs k names [] ns xs ts →
     slice_get ns at ≡ Some n → slice_get hs at ≡ Some h → slice_get xs n ≡ Some x → SayOf names x.marks.items number s → StandsAt g k h number s
 stands_said g k names hs ns xs ts at n h x number s f e u v says rule here sort idle =
     let o = f.of_node at n h x e u v in
@@ -140,7 +145,8 @@ module _ (names : List Ref) (once : IsNamedOnce names) (slot : ℕ) (r : Ref) (n
   named_live (n ∷ ns) zero l e = absurd cc
   named_live (n ∷ ns) (suc c) l e = named_live ns c (omega (arith, l)) e
 
-  slot_waits : (n rule c : ℕ) (o : Option Ref) → slice_get names c ≡ o → nat_lt c (length names) ≡ true → waiting_at slot (due_of n rule (stands.Waits c)) ≡ cond (waits_on r (option_map WaitsFor o)) 1 0
+  slot_waits : (n rule c : ℕ) (o : Option Ref) → slice_get names c ≡ o → nat_lt c (length names) ≡ true →
+      waiting_at slot (due_of n rule (stands.Waits c)) ≡ cond (waits_on r (option_map WaitsFor o)) 1 0
   slot_waits n rule c None e l = absurd (named_live names c (ltb-true c (length names) l) e)
   slot_waits n rule c (Some q) e l = by (eqb_tells c slot) (ref_eq q r) refl
     where
@@ -163,7 +169,8 @@ module _ (names : List Ref) (once : IsNamedOnce names) (slot : ℕ) (r : Ref) (n
       by (Some q) = refl
   mark_waits n rule (stands.Waits c) l = slot_waits n rule c (slice_get names c) refl l
 
-  marks_wait : (n : ℕ) (nd : Node) (ms : List Mark) → ((j : ℕ) (m : Mark) → slice_get ms j ≡ Some m → has_live (length names) m.stands ≡ true) → waiting_at slot (due_marks n ms) ≡ waiting_on r (map (kept_item names nd) ms)
+  marks_wait : (n : ℕ) (nd : Node) (ms : List Mark) → ((j : ℕ) (m : Mark) → slice_get ms j ≡ Some m → has_live (length names) m.stands ≡ true) →
+      waiting_at slot (due_marks n ms) ≡ waiting_on r (map (kept_item names nd) ms)
   marks_wait n nd [] live = refl
   marks_wait n nd (m ∷ ms) live =
       omega (
@@ -197,12 +204,14 @@ module _ (names : List Ref) (once : IsNamedOnce names) (slot : ℕ) (r : Ref) (n
       )
 
   -- as many pairs wait for the slot of a reference as items of the worklist wait for the reference
-  pub pairs_wait : (g : Grammar) (k : Map) (hs : List Held) (ns : List ℕ) (xs : List Record) (ts : List Triple) → AreKept g hs k names [] ns xs ts → waiting_at slot ts ≡ waiting_on r (site_worklist g k (all_of g hs))
+  pub pairs_wait : (g : Grammar) (k : Map) (hs : List Held) (ns : List ℕ) (xs : List Record) (ts : List Triple) → AreKept g hs k names [] ns xs ts →
+      waiting_at slot ts ≡ waiting_on r (site_worklist g k (all_of g hs))
   pairs_wait g k hs ns xs ts f =
       f.fits.waiting (λ t. nat_eq t.slot slot)
       ∙ all_wait g k xs ns hs f.beside (λ i n h e u. shows i n h e u (slice_get_cases xs n))
     where
-      shows : (i n : ℕ) (h : Held) → slice_get ns i ≡ Some n → slice_get hs i ≡ Some h → (slice_get xs n ≡ slice_get xs n) × (((x : Record) × (n < length xs) × (slice_get xs n ≡ Some x) × (get_or xs n x ≡ x)) ⊎ ((length xs ≤ n) × (slice_get xs n ≡ None))) → ShowsItems g k xs n h
+      shows : (i n : ℕ) (h : Held) → slice_get ns i ≡ Some n → slice_get hs i ≡ Some h →
+          (slice_get xs n ≡ slice_get xs n) × (((x : Record) × (n < length xs) × (slice_get xs n ≡ Some x) × (get_or xs n x ≡ x)) ⊎ ((length xs ≤ n) × (slice_get xs n ≡ None))) → ShowsItems g k xs n h
       shows i n h e u (_, inl (x, _, v, _)) = (x, v, (f.fits.fit i n x e v).stand, items_kept g k names h x (f.of_node i n h x e u v) (λ j m w. f.told i n h x e u v j m w (none_late names m.stands)))
       shows i n h e u (_, inr (past, none)) = absurd (omega (arith, past, f.fits.known i n e))
 

@@ -21,7 +21,8 @@ returns-in_err-get-clause-none c =
     let at = c.partition_point-at.result in
     let gone = slice_get_past ms at c.in_err-get.ensures.lookup.3 in
     said _ c.from_residual.result (λ rising.
-    let point = IsPartitionPoint-from_clause (λ (m : Mark). nat_lt m.rule rule) ms at c.partition_point-at.ensures.partitioned (IsPartitionedBy-ltb mark_rule ms rule (not_falling ms rising)) (λ a q p k. search rules) in
+    let point = IsPartitionPoint-from_clause (λ (m : Mark). nat_lt m.rule rule) ms at c.partition_point-at.ensures.partitioned
+    (IsPartitionedBy-ltb mark_rule ms rule (not_falling ms rising)) (λ a q p k. search rules) in
     none_of_rule ms rising rule at point.0 point.1 (λ m here e. absurd (none_some m (sym gone ∙ here))))
 
 pub returns-then-branch-rule-clause-found : goal.returns-then-branch-rule-clause-found
@@ -39,5 +40,6 @@ returns-else-branch-rule-clause-none c rising =
     let k = c.in_ok-get.field-0.now in
     let found = c.in_ok-get.ensures.lookup in
     let there = slice_get_read ms (length ms) at k refl found.3.0 found.1 in
-    let point = IsPartitionPoint-from_clause (λ (m : Mark). nat_lt m.rule rule) ms at c.partition_point-at.ensures.partitioned (IsPartitionedBy-ltb mark_rule ms rule (not_falling ms rising)) (λ a q p k. search rules) in
+    let point = IsPartitionPoint-from_clause (λ (m : Mark). nat_lt m.rule rule) ms at c.partition_point-at.ensures.partitioned
+    (IsPartitionedBy-ltb mark_rule ms rule (not_falling ms rising)) (λ a q p k. search rules) in
     none_of_rule ms rising rule at point.0 point.1 (λ m here e. c.if-branch-rule.false (ap mark_rule (same_Some k m (sym there ∙ here)) ∙ e))

@@ -29,4 +29,5 @@ pub returns-clause-nodes : goal.returns-clause-nodes
 returns-clause-nodes g c =
     let s = space_seen g.F.Facts c.args.self.now in
     let e = c.in_ok-take.ensures.space in
-    subst (KeepsNodesBut (node_of (choice_of c.args.choice.now)) s.held) (sym (ap (λ (x : P.Space). x.held) e)) (nodes_after (grammar_of c.args.g.now.grammar) c.args.self.now.role s (choice_of c.args.choice.now))
+    subst (KeepsNodesBut (node_of (choice_of c.args.choice.now)) s.held) (sym (ap (λ (x : P.Space). x.held) e))
+    (nodes_after (grammar_of c.args.g.now.grammar) c.args.self.now.role s (choice_of c.args.choice.now))
