@@ -1,5 +1,6 @@
 //! Numbers in chunks, each of which is found by the place at which it begins.
-ghost use Rattle.std.specs.Prelude.{◌≡◌, ◌+◌, ◌-◌, ◌<◌, ◌≤◌, ◌^◌, ◌++◌, ◌∷◌, [], Some, true, false, All, OnOk, length, map as list_map, suc, insert, slice_get, slice_index_or, vec_len, vec_capacity};
+ghost use Rattle.std.specs.Prelude.{◌≡◌, ◌+◌, ◌-◌, ◌<◌, ◌≤◌, ◌^◌, ◌++◌, ◌∷◌, [], Some, true, false, All, OnOk, suc};
+ghost use Rattle.std.specs.Prelude.{length, map as list_map, insert, slice_get, slice_index_or, vec_len, vec_capacity};
 ghost use Rattle.std.specs.List.{concat};
 ghost use Rattle.aw_node_list.specs.Chunks.{begins, begin_of, chunk_at, IsUnder, LiesIn, IsHalved};
 

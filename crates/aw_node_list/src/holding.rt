@@ -14,7 +14,8 @@ use std::marker::Model;
 const MOST: usize = 1 << 32;
 
 /// Held nodes in their order. A node stays where it was put first, and its number stands at its place: one that is put in
-/// between moves a few small numbers, and no node. Contracts see the nodes in their order, and how many more there is room for.
+/// between moves a few small numbers, and no node. Nodes are numbered from 0 as they come. Contracts see the nodes in their order,
+/// their numbers, and how many more there is room for.
 #[derive(Drop)]
 pub struct Holding {
     order: Order,
@@ -88,7 +89,8 @@ fn mark_at(order: &Order, nodes: &mut [Held], place: usize, done: Choice)
 impl Holding {
     /// Nothing is held. It takes no memory yet.
     pub fn new(alloc: Global) -> Holding
-        ensures { result.items ≡ [] }
+        ensures items { result.items ≡ [] }
+        ensures numbers { result.numbers ≡ [] }
     {
         Holding {
             order: Order::new(alloc),

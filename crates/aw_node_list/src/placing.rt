@@ -151,6 +151,7 @@ pub fn put_between(held: &mut Holding, new: Held) -> usize
     requires room { 0 < held.old.room }
     ensures items { held.new.items ≡ insert_in new held.old.items }
     ensures place { held.new.items ≡ insert held.old.items result new }
+    ensures numbers { held.new.numbers ≡ insert held.old.numbers result (length held.old.numbers) }
     ensures within { result ≤ length held.old.items }
     ensures ordered { IsInOrder held.new.items }
     ensures room { held.old.room ≤ held.new.room + 1 }

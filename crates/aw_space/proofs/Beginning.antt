@@ -3,9 +3,10 @@ use Rattle.std.proofs.Common.{◌≡◌, ℕ, List, [], refl, sym, subst, arith}
 use Rattle.aw_term.specs.Names.{Ref}
 use Rattle.aw_term.specs.Rules.{Grammar}
 use Rattle.aw_store.specs.Equations.{Map}
+use Rattle.aw_node_list.specs.Row.{Row}
 use Rattle.aw_node_list.specs.declared.held.Held.{Held}
 use Rattle.aw_standing.specs.declared.kept.Kept.{Kept}
-use Rattle.aw_standing.specs.KeptStates.{IsKept}
+use Rattle.aw_standing.specs.KeptStates.{AreKept, IsKept}
 use Rattle.aw_space.specs.Sound.{IsSound}
 use Rattle.aw_space.specs.Valid.{IsValid}
 
@@ -17,5 +18,8 @@ new_sound g role hs k names e f =
 pub new_valid : (g : Grammar) (hs : List Held) (k : Map) → hs ≡ [] → k ≡ [] → IsValid g hs k
 new_valid g hs k e f = subst (λ xs. IsValid g xs k) (sym e) (subst (λ m. IsValid g [] m) (sym f) (record { nodes = refl; equations = refl }))
 
-pub new_kept : (g : Grammar) (hs : List Held) (k : Map) (names : List Ref) (kept : Kept) → hs ≡ [] → IsKept g [] k names kept → IsKept g hs k names kept
-new_kept g hs k names kept e w = subst (λ xs. IsKept g xs k names kept) (sym e) w
+pub new_kept : (g : Grammar) (row : Row) (k : Map) (names : List Ref) (kept : Kept) → row.items ≡ [] → row.numbers ≡ [] →
+    AreKept g [] k names [] [] kept.records.items kept.work.waiting → IsKept g row k names kept
+new_kept g row k names kept e f w =
+    subst (λ xs. AreKept g xs k names [] row.numbers kept.records.items kept.work.waiting) (sym e)
+    (subst (λ ns. AreKept g [] k names [] ns kept.records.items kept.work.waiting) (sym f) w)

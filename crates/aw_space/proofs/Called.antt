@@ -34,8 +34,8 @@ rooted_other a b c e = ap (λ x. not (a && x) || c) e ∙ none a
     none true = refl
     none false = refl
 
-pub sound_called : (g : Grammar) (role : ℕ) (hs : List Held) (k : Map) (names names' : List Ref) (n : Node) (rs : List Ref) →
-    MayBeCalled g role (call_of g n rs) → IsSound g role hs k names → IsInOrder (insert_in (called_open n rs) hs) →
+pub sound_called : (g : Grammar) (role : ℕ) (hs : List Held) (k : Map) (names names' : List Ref) (n : Node) (rs : List Ref) → MayBeCalled g role (call_of g n rs) →
+    IsSound g role hs k names → IsInOrder (insert_in (called_open n rs) hs) →
     Grows names names' → all_named names' rs ≡ true → IsSound g role (insert_in (called_open n rs) hs) k names'
 sound_called g role hs k names names' n rs may sound ordered grows named =
     let h = called_open n rs in
@@ -93,14 +93,14 @@ pub view_missing : (g : Grammar) (p : Option Placing) (hs : List Held) → all_o
 view_missing g None hs = refl
 view_missing g (Some p) hs = view_cases g p hs (place_in p.node hs) refl
 
-sound_cases : (g : Grammar) (role : ℕ) (p : Placing) (hs : List Held) (k : Map) (names names' : List Ref) (o : Option ℕ) →
-    MayBeCalled g role (placed_call g p) → IsSound g role hs k names → IsInOrder (with_node (missing_on o p) hs) →
+sound_cases : (g : Grammar) (role : ℕ) (p : Placing) (hs : List Held) (k : Map) (names names' : List Ref) (o : Option ℕ) → MayBeCalled g role (placed_call g p) →
+    IsSound g role hs k names → IsInOrder (with_node (missing_on o p) hs) →
     Grows names names' → all_named names' (inherited_by (missing_on o p)) ≡ true → IsSound g role (with_node (missing_on o p) hs) k names'
 sound_cases g role p hs k names names' None may sound ordered grows named = sound_called g role hs k names names' p.node p.inherited may sound ordered grows named
 sound_cases g role p hs k names names' (Some i) may sound ordered grows named = grown_sound g role hs hs k names names' sound grows refl
 
-pub sound_missing : (g : Grammar) (role : ℕ) (p : Option Placing) (hs : List Held) (k : Map) (names names' : List Ref) → MayBeCalledIf g role
-    (option_map (placed_call g) p) → IsSound g role hs k names →
+pub sound_missing : (g : Grammar) (role : ℕ) (p : Option Placing) (hs : List Held) (k : Map) (names names' : List Ref) → MayBeCalledIf g role (option_map (placed_call g) p) →
+    IsSound g role hs k names →
     IsInOrder (with_node (missing_node p hs) hs) → Grows names names' → all_named names' (inherited_by (missing_node p hs)) ≡ true → IsSound g role (with_node (missing_node p hs) hs) k names'
 sound_missing g role None hs k names names' may sound ordered grows named = grown_sound g role hs hs k names names' sound grows refl
 sound_missing g role (Some p) hs k names names' may sound ordered grows named = sound_cases g role p hs k names names' (place_in p.node hs) may sound ordered grows named
@@ -109,7 +109,7 @@ valid_cases : (g : Grammar) (role : ℕ) (p : Placing) (hs : List Held) (k : Map
 valid_cases g role p hs k None may valid = valid_called g role hs k p.node p.inherited may valid
 valid_cases g role p hs k (Some i) may valid = valid
 
-pub valid_missing : (g : Grammar) (role : ℕ) (p : Option Placing) (hs : List Held) (k : Map) → MayBeCalledIf g role (option_map (placed_call g) p) →
-    IsValid g hs k → IsValid g (with_node (missing_node p hs) hs) k
+pub valid_missing : (g : Grammar) (role : ℕ) (p : Option Placing) (hs : List Held) (k : Map) → MayBeCalledIf g role (option_map (placed_call g) p) → IsValid g hs k →
+    IsValid g (with_node (missing_node p hs) hs) k
 valid_missing g role None hs k may valid = valid
 valid_missing g role (Some p) hs k may valid = valid_cases g role p hs k (place_in p.node hs) may valid

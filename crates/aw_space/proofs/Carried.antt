@@ -84,8 +84,8 @@ rooted_none : (a b : Bool) (c : Bool) → a ≡ true → b ≡ true → c ≡ fa
 rooted_none a b c p q r e =
     let z : (not (true && true) || false) ≡ true = sym (λ i. not (p i && q i) || r i) ∙ e in absurd cc
 
-lacks_on : (g : P.Grammar) (role : ℕ) (hs : List Held) (n : Node) (r k : ℕ) (o : Option ℕ) → place_in (below n r k) hs ≡ o →
-    all_rooted g role hs hs ≡ true → is_home g role n ≡ true → is_done n hs ≡ false → o ≡ None
+lacks_on : (g : P.Grammar) (role : ℕ) (hs : List Held) (n : Node) (r k : ℕ) (o : Option ℕ) → place_in (below n r k) hs ≡ o → all_rooted g role hs hs ≡ true →
+    is_home g role n ≡ true → is_done n hs ≡ false → o ≡ None
 lacks_on g role hs n r k None e all home idle = refl
 lacks_on g role hs n r k (Some i) e all home idle =
     let w = held_here g (below n r k) hs i e in
@@ -213,8 +213,8 @@ module _ (gr : Grammar) (role : ℕ) (hs : List Held) (k : Map) (names : List Re
         let fits : map ground_of given ≡ args = cc in
         let rules = ap (slice_get g.rules) numbered ∙ t.rule.is_rule in
         and_from _ _ (ap (node_eq m) (t.node ∙ sym same) ∙ node_self m)
-        (and_from _ _ (ap (λ o. is_of_sort o (sort_of g t.held.node)) rules ∙ ap (λ x. is_of_sort (Some rule) (sort_of g x)) t.node
-        ∙ ap (is_of_sort (Some rule)) sorted ∙ eq-eqb rule.sort rule.sort refl)
+        (and_from _ _ (ap (λ o. is_of_sort o (sort_of g t.held.node)) rules ∙ ap (λ x. is_of_sort (Some rule) (sort_of g x)) t.node ∙ ap (is_of_sort (Some rule)) sorted
+        ∙ eq-eqb rule.sort rule.sort refl)
         (ap (args_ok g) fits ∙ fit))
 
     valid_after : IsValid g after (k ++ mk.equations)

@@ -168,8 +168,8 @@ module _ {F : Type 0} (f : Ghosts F) (sp : Space F f) (c : Choice) (m : Made) (w
         ap (λ xs. rules_at g (all_of g (own_children g role xs))) children_are ∙ ap (rules_at g) (own_view g role mk.calls (kid_sorts gr role hs k names sound valid n r args rule_ok rule_home t)) in
         let lefts : B ≡ waiting_on_lefts mk.equations W = ap (λ es. waiting_on_lefts es W) equations_are in
         subst (λ x. (A + B) + 1 ≤ choice_cost g role S x) (sym seen)
-        (subst (λ x. (A + B) + 1 ≤ 1 + (rules_at g (added g role (Q.Develop n r args) x) + waiting_on_lefts (making (Q.Develop n r args) x).equations
-        (worklist g S))) (sym t.rule.takes) (omega (arith, kids, lefts)))
+        (subst (λ x. (A + B) + 1 ≤ 1 + (rules_at g (added g role (Q.Develop n r args) x) + waiting_on_lefts (making (Q.Develop n r args) x).equations (worklist g S)))
+        (sym t.rule.takes) (omega (arith, kids, lefts)))
 
     -- the node is held
     pub rule_there : place_in n hs ≡ None → ⊥

@@ -38,8 +38,8 @@ some_is (Some x) e = (x, refl)
 pub asked_rule : (g : Grammar) (n : Node) (r : ℕ) (args : List Ground) → choice_ok g (Develop n r args) ≡ true → (rule : Rule) × (slice_get g.rules r ≡ Some rule)
 asked_rule g n r args ok = some_is (slice_get g.rules r) (and_parts (is_some (slice_get g.rules r)) (args_ok g args) (and_parts (is_some (sort_of g n)) _ ok).1).0
 
-refused_on : (o : Outcome) (n : Node) (r : ℕ) (args : List Ground) (a : Answer) (x : Q.Outcome Ref Ref) → Q.Refused (answer_of a) ≡ x → o.answer ≡ a →
-    o.made.equations ≡ [] → o.made.children ≡ [] → IsOutcome o (Develop n r args) x
+refused_on : (o : Outcome) (n : Node) (r : ℕ) (args : List Ground) (a : Answer) (x : Q.Outcome Ref Ref) → Q.Refused (answer_of a) ≡ x → o.answer ≡ a → o.made.equations ≡ [] →
+    o.made.children ≡ [] → IsOutcome o (Develop n r args) x
 refused_on o n r args a x e f es cs = record {
   answer = ap answer_of f ∙ ap Q.answer_of e;
   made = record {
@@ -50,15 +50,14 @@ refused_on o n r args a x e f es cs = record {
 
 -- a refusal makes nothing
 pub refused_foretold : (g : Grammar) (o : Outcome) (n : Node) (r : ℕ) (args : List Ground) (w : Weighed) (a : Answer) (x : Q.Outcome Ref Ref) →
-    choice_ok g (Develop n r args) ≡ true → Weighs g r w x → w ≡ weighed.Refused a → o.answer ≡ a → o.made.equations ≡ [] → o.made.children ≡ [] →
-    IsOutcome o (Develop n r args) x
+    choice_ok g (Develop n r args) ≡ true → Weighs g r w x → w ≡ weighed.Refused a → o.answer ≡ a → o.made.equations ≡ [] → o.made.children ≡ [] → IsOutcome o (Develop n r args) x
 refused_foretold g o n r args w a x ok weighs is f es cs =
     let rule = asked_rule g n r args ok in
     refused_on o n r args a x (ap (weighed_of rule.0) (sym is) ∙ weighs rule.0 rule.1) f es cs
 
-takes_on : (m : Made) (place : ℕ) (n : Node) (r : ℕ) (args : List Ground) (rule : Rule) (bound : List Ref) (x : Q.Outcome Ref Ref) →
-    Q.Takes rule bound ≡ x → map equation_of m.equations ≡ (M.made n r rule args bound).equations → m.children ≡ map as_child
-    (M.made n r rule args bound).calls → IsOutcome (record { answer = answer.Taken; made = m; place = place }) (Develop n r args) x
+takes_on : (m : Made) (place : ℕ) (n : Node) (r : ℕ) (args : List Ground) (rule : Rule) (bound : List Ref) (x : Q.Outcome Ref Ref) → Q.Takes rule bound ≡ x →
+    map equation_of m.equations ≡ (M.made n r rule args bound).equations → m.children ≡ map as_child (M.made n r rule args bound).calls →
+    IsOutcome (record { answer = answer.Taken; made = m; place = place }) (Develop n r args) x
 takes_on m place n r args rule bound x e es cs = record {
   answer = ap Q.answer_of e;
   made = record {
@@ -68,8 +67,8 @@ takes_on m place n r args rule bound x e es cs = record {
 }
 
 -- a rule that is taken makes what it makes
-pub taken_foretold : (g : Grammar) (m : Made) (place : ℕ) (n : Node) (r : ℕ) (args : List Ground) (w : Weighed) (bound : Vec Ref Global)
-    (x : Q.Outcome Ref Ref) → choice_ok g (Develop n r args) ≡ true → Weighs g r w x → w ≡ weighed.Takes bound →
+pub taken_foretold : (g : Grammar) (m : Made) (place : ℕ) (n : Node) (r : ℕ) (args : List Ground) (w : Weighed) (bound : Vec Ref Global) (x : Q.Outcome Ref Ref) →
+    choice_ok g (Develop n r args) ≡ true → Weighs g r w x → w ≡ weighed.Takes bound →
     ((rule : Rule) → slice_get g.rules r ≡ Some rule → map equation_of m.equations ≡ (M.made n r rule args bound.items).equations) →
     ((rule : Rule) → slice_get g.rules r ≡ Some rule → m.children ≡ map as_child (M.made n r rule args bound.items).calls) →
     IsOutcome (record { answer = answer.Taken; made = m; place = place }) (Develop n r args) x
@@ -77,8 +76,8 @@ taken_foretold g m place n r args w bound x ok weighs is es cs =
     let rule = asked_rule g n r args ok in
     takes_on m place n r args rule.0 bound.items x (ap (weighed_of rule.0) (sym is) ∙ weighs rule.0 rule.1) (es rule.0 rule.1) (cs rule.0 rule.1)
 
-known_on : (o : Outcome) (s k : ℕ) (a : Answer) (x : Q.Outcome Ref Ref) → answer_of a ≡ Q.answer_of x → making (Start s k) x ≡ making (Start s k)
-    Q.Starts → o.answer ≡ a → o.made.equations ≡ [] → o.made.children ≡ [] → IsOutcome o (Start s k) x
+known_on : (o : Outcome) (s k : ℕ) (a : Answer) (x : Q.Outcome Ref Ref) → answer_of a ≡ Q.answer_of x → making (Start s k) x ≡ making (Start s k) Q.Starts → o.answer ≡ a →
+    o.made.equations ≡ [] → o.made.children ≡ [] → IsOutcome o (Start s k) x
 known_on o s k a x e m f es cs = record {
   answer = ap answer_of f ∙ e;
   made = record {
@@ -88,14 +87,14 @@ known_on o s k a x e m f es cs = record {
 }
 
 -- a start of a case that is held
-pub known_foretold : (g : Grammar) (o : Outcome) (s k : ℕ) (hs : List Held) (i : ℕ) → place_in (root s k) hs ≡ Some i → o.answer ≡ answer.Known →
-    o.made.equations ≡ [] → o.made.children ≡ [] → IsOutcome o (Start s k) (by_root (J.held_of (root s k) (all_of g hs)))
+pub known_foretold : (g : Grammar) (o : Outcome) (s k : ℕ) (hs : List Held) (i : ℕ) → place_in (root s k) hs ≡ Some i → o.answer ≡ answer.Known → o.made.equations ≡ [] →
+    o.made.children ≡ [] → IsOutcome o (Start s k) (by_root (J.held_of (root s k) (all_of g hs)))
 known_foretold g o s k hs i e f es cs =
     let w = held_here g (root s k) hs i e in
     subst (λ x. IsOutcome o (Start s k) (by_root x)) (sym w.3) (known_on o s k answer.Known (Q.Refused Q.Known) refl refl f es cs)
 
 -- a start of a new case
-pub starts_foretold : (g : Grammar) (o : Outcome) (s k : ℕ) (hs : List Held) → place_in (root s k) hs ≡ None → o.answer ≡ answer.Taken →
-    o.made.equations ≡ [] → o.made.children ≡ [] → IsOutcome o (Start s k) (by_root (J.held_of (root s k) (all_of g hs)))
+pub starts_foretold : (g : Grammar) (o : Outcome) (s k : ℕ) (hs : List Held) → place_in (root s k) hs ≡ None → o.answer ≡ answer.Taken → o.made.equations ≡ [] →
+    o.made.children ≡ [] → IsOutcome o (Start s k) (by_root (J.held_of (root s k) (all_of g hs)))
 starts_foretold g o s k hs e f es cs =
     subst (λ x. IsOutcome o (Start s k) (by_root x)) (sym (held_nowhere g (root s k) hs e)) (known_on o s k answer.Taken Q.Starts refl refl f es cs)

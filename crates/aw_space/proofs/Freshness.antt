@@ -10,8 +10,8 @@ use Rattle.aw_node_list.specs.declared.held.Held.{Held}
 use Rattle.aw_space.specs.Sound.{all_done, is_done}
 use Rattle.aw_space.specs.Spaces.{is_home}
 
-free_cases : (b home done : Bool) (e : Equation) (later : Option Body) → (b ≡ true → home ≡ true) → (b ≡ true → done ≡ false) →
-    (not home || done) ≡ true → later ≡ None → cond b (Some e.body) later ≡ None
+free_cases : (b home done : Bool) (e : Equation) (later : Option Body) → (b ≡ true → home ≡ true) → (b ≡ true → done ≡ false) → (not home || done) ≡ true → later ≡ None →
+    cond b (Some e.body) later ≡ None
 free_cases false home done e later h d ok none = none
 free_cases true home done e later h d ok none =
     let p = h refl in
@@ -20,8 +20,8 @@ free_cases true home done e later h d ok none =
     absurd cc
 
 -- an open node of this role has no equations
-pub free_pending : (g : Grammar) (role : ℕ) (hs : List Held) (k : Map) (n : Node) → all_done g role hs k ≡ true → is_home g role n ≡ true →
-    is_done n hs ≡ false → (x : Ref) → x.node ≡ n → find k x ≡ None
+pub free_pending : (g : Grammar) (role : ℕ) (hs : List Held) (k : Map) (n : Node) → all_done g role hs k ≡ true → is_home g role n ≡ true → is_done n hs ≡ false → (x : Ref) →
+    x.node ≡ n → find k x ≡ None
 free_pending g role hs [] n all here idle x e = refl
 free_pending g role hs (f ∷ fs) n all here idle x e =
     let (one, rest) = and_parts (not (is_home g role f.left.node) || is_done f.left.node hs) _ all in

@@ -23,16 +23,16 @@ pub done-push : (g : Grammar) (role : ℕ) (hs : List Held) (k : Map) (e : Q.Equ
 done-push g role hs [] e all one = and_from _ _ one refl
 done-push g role hs (f ∷ fs) e all one = let (a, b) = and_parts (not (is_home g role f.left.node) || is_done f.left.node hs) _ all in and_from _ _ a (done-push g role hs fs e b one)
 
-added_done : (g : Grammar) (role : ℕ) (hs : List Held) (old new : Map) (e : Equation) (a : Added) → Adds old e a new →
-    is_home g role e.left.node ≡ false → all_done g role hs old ≡ true → all_done g role hs new ≡ true
+added_done : (g : Grammar) (role : ℕ) (hs : List Held) (old new : Map) (e : Equation) (a : Added) → Adds old e a new → is_home g role e.left.node ≡ false →
+    all_done g role hs old ≡ true → all_done g role hs new ≡ true
 added_done g role hs old new e added.New w other all =
     subst (λ k. all_done g role hs k ≡ true) (sym w.1) (done-push g role hs old (equation_of e) all (ap (λ b. not b || is_done e.left.node hs) other))
 added_done g role hs old new e added.Same w other all = subst (λ k. all_done g role hs k ≡ true) (sym w.1) all
 added_done g role hs old new e (added.Conflict kept came) w other all = subst (λ k. all_done g role hs k ≡ true) (sym w.3) all
 
 -- an equation of another role says nothing of this role's nodes
-pub learnt_done : {E : Type 0} (g : Grammar) (role : ℕ) (hs : List Held) (old new : Map) (e : Equation) (r : Result Added E) →
-    IfOk r (λ a. Adds old e a new) → OnErr r (new ≡ old) → is_home g role e.left.node ≡ false → all_done g role hs old ≡ true → all_done g role hs new ≡ true
+pub learnt_done : {E : Type 0} (g : Grammar) (role : ℕ) (hs : List Held) (old new : Map) (e : Equation) (r : Result Added E) → IfOk r (λ a. Adds old e a new) →
+    OnErr r (new ≡ old) → is_home g role e.left.node ≡ false → all_done g role hs old ≡ true → all_done g role hs new ≡ true
 learnt_done g role hs old new e (Ok a) w n other all = added_done g role hs old new e a w other all
 learnt_done g role hs old new e (Err x) w n other all = subst (λ k. all_done g role hs k ≡ true) (sym n) all
 
@@ -42,8 +42,8 @@ added_valid g old new e added.Same w ok all = subst (λ k. equations_ok g k ≡ 
 added_valid g old new e (added.Conflict kept came) w ok all = subst (λ k. equations_ok g k ≡ true) (sym w.3) all
 
 -- a valid equation keeps all valid
-pub learnt_valid : {E : Type 0} (g : Grammar) (old new : Map) (e : Equation) (r : Result Added E) → IfOk r (λ a. Adds old e a new) →
-    OnErr r (new ≡ old) → equation_ok g (equation_of e) ≡ true → equations_ok g old ≡ true → equations_ok g new ≡ true
+pub learnt_valid : {E : Type 0} (g : Grammar) (old new : Map) (e : Equation) (r : Result Added E) → IfOk r (λ a. Adds old e a new) → OnErr r (new ≡ old) →
+    equation_ok g (equation_of e) ≡ true → equations_ok g old ≡ true → equations_ok g new ≡ true
 learnt_valid g old new e (Ok a) w n ok all = added_valid g old new e a w ok all
 learnt_valid g old new e (Err x) w n ok all = subst (λ k. equations_ok g k ≡ true) (sym n) all
 

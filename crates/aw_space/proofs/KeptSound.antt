@@ -40,8 +40,8 @@ inherited_done c zero (h ∷ hs) = refl
 inherited_done c (suc i) (h ∷ hs) = ap (λ x. h.inherited ++ x) (inherited_done c i hs)
 
 -- nodes of this role
-own_cases : (g : Grammar) (role : ℕ) (b : Bool) (h k : Held) (ks zs : List Held) → is_own g role h ≡ true → all_own g role (k ∷ ks) ≡ true →
-    all_own g role zs ≡ true → all_own g role (cond b (h ∷ k ∷ ks) (k ∷ zs)) ≡ true
+own_cases : (g : Grammar) (role : ℕ) (b : Bool) (h k : Held) (ks zs : List Held) → is_own g role h ≡ true → all_own g role (k ∷ ks) ≡ true → all_own g role zs ≡ true →
+    all_own g role (cond b (h ∷ k ∷ ks) (k ∷ zs)) ≡ true
 own_cases g role true h k ks zs here all later = and_from _ _ here all
 own_cases g role false h k ks zs here all later = and_from _ _ (and_parts (is_own g role k) _ all).0 later
 
@@ -113,25 +113,25 @@ all_done_new g role hs n (e ∷ es) here all =
 pub rooted_more : (g : Grammar) (role : ℕ) (hs ks : List Held) (n : Node) → ((m : Node) → is_done m hs ≡ true → is_done m ks ≡ true) → is_rooted g role hs n ≡ true → is_rooted g role ks n ≡ true
 rooted_more g role hs ks n more e = or_later (not (has_steps n.steps && is_home g role (parent n))) (is_done (parent n) hs) (is_done (parent n) ks) (more (parent n)) e
 
-pub all_rooted_more : (g : Grammar) (role : ℕ) (hs ks : List Held) (xs : List Held) → ((m : Node) → is_done m hs ≡ true → is_done m ks ≡ true) →
-    all_rooted g role hs xs ≡ true → all_rooted g role ks xs ≡ true
+pub all_rooted_more : (g : Grammar) (role : ℕ) (hs ks : List Held) (xs : List Held) → ((m : Node) → is_done m hs ≡ true → is_done m ks ≡ true) → all_rooted g role hs xs ≡ true →
+    all_rooted g role ks xs ≡ true
 all_rooted_more g role hs ks [] more e = refl
 all_rooted_more g role hs ks (x ∷ xs) more e =
     let (a, b) = and_parts (is_rooted g role hs x.node) _ e in and_from _ _ (rooted_more g role hs ks x.node more a) (all_rooted_more g role hs ks xs more b)
 
-rooted_cases : (g : Grammar) (role : ℕ) (xs : List Held) (b : Bool) (h k : Held) (ks zs : List Held) → is_rooted g role xs h.node ≡ true →
-    all_rooted g role xs (k ∷ ks) ≡ true → all_rooted g role xs zs ≡ true → all_rooted g role xs (cond b (h ∷ k ∷ ks) (k ∷ zs)) ≡ true
+rooted_cases : (g : Grammar) (role : ℕ) (xs : List Held) (b : Bool) (h k : Held) (ks zs : List Held) → is_rooted g role xs h.node ≡ true → all_rooted g role xs (k ∷ ks) ≡ true →
+    all_rooted g role xs zs ≡ true → all_rooted g role xs (cond b (h ∷ k ∷ ks) (k ∷ zs)) ≡ true
 rooted_cases g role xs true h k ks zs here all later = and_from _ _ here all
 rooted_cases g role xs false h k ks zs here all later = and_from _ _ (and_parts (is_rooted g role xs k.node) _ all).0 later
 
-pub rooted_inserted : (g : Grammar) (role : ℕ) (xs : List Held) (h : Held) (hs : List Held) → is_rooted g role xs h.node ≡ true →
-    all_rooted g role xs hs ≡ true → all_rooted g role xs (insert_in h hs) ≡ true
+pub rooted_inserted : (g : Grammar) (role : ℕ) (xs : List Held) (h : Held) (hs : List Held) → is_rooted g role xs h.node ≡ true → all_rooted g role xs hs ≡ true →
+    all_rooted g role xs (insert_in h hs) ≡ true
 rooted_inserted g role xs h [] here all = and_from _ _ here refl
 rooted_inserted g role xs h (k ∷ ks) here all =
     rooted_cases g role xs (node_lt h.node k.node) h k ks (insert_in h ks) here all (rooted_inserted g role xs h ks here (and_parts (is_rooted g role xs k.node) _ all).1)
 
-pub rooted_all_inserted : (g : Grammar) (role : ℕ) (xs : List Held) (hs ks : List Held) → all_rooted g role xs hs ≡ true →
-    all_rooted g role xs ks ≡ true → all_rooted g role xs (insert_all_in hs ks) ≡ true
+pub rooted_all_inserted : (g : Grammar) (role : ℕ) (xs : List Held) (hs ks : List Held) → all_rooted g role xs hs ≡ true → all_rooted g role xs ks ≡ true →
+    all_rooted g role xs (insert_all_in hs ks) ≡ true
 rooted_all_inserted g role xs [] ks new all = all
 rooted_all_inserted g role xs (h ∷ hs) ks new all =
     let (a, b) = and_parts (is_rooted g role xs h.node) _ new in rooted_all_inserted g role xs hs (insert_in h ks) b (rooted_inserted g role xs h ks a all)

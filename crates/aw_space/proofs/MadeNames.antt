@@ -94,8 +94,8 @@ module _ (w : Words) (g : Grammar) (formed : IsWellFormed w g) where
         let (p, c) = each_member (Lies n 1 z 1 (1 + length rule.results)) mk.equations e A.lie m in
         let q = grammar.results rule in_rules in
         subst (λ o. slot_ok g o e.left.slot ≡ true) (sym (ap (sort_of g) p ∙ sorted))
-        (slot_within g rule.sort (1 + (symbols_of args + (child_symbols rule.children + symbols_of rule.results))) 1 z (1 + length rule.results)
-        e.left.slot few (omega (arith, q)) (made-under n ri rule args bound e m) c)
+        (slot_within g rule.sort (1 + (symbols_of args + (child_symbols rule.children + symbols_of rule.results))) 1 z (1 + length rule.results) e.left.slot few (omega (arith, q))
+        (made-under n ri rule args bound e m) c)
 
     inner : ((c : Call) → Member c mk.calls → (r : Ref) → Member r c.inherited → ref_ok g r ≡ true) × MentionsIn (λ r. ref_ok g r ≡ true) mk.equations
     inner = made-in g (variables_enter w g formed) n ri rule rule_is args given bound many (λ r. ref_ok g r ≡ true) old (λ e m s. left_ok e m) (λ i c l f lo b. kid_ref i c l f lo b)

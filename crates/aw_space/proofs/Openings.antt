@@ -75,10 +75,10 @@ all_tests_are g names (o ∷ os) r =
 
 -- there is room for less
 pub less_room : (kept : Kept) (n m w v : ℕ) → HasRoom kept n w → m ≤ n → v ≤ w → HasRoom kept m v
-less_room kept n m w v r a b = record { places = omega (arith, r.places, a); entries = omega (arith, r.entries, a); few = omega (arith, r.few, a); spare = omega (arith, r.spare, b) }
+less_room kept n m w v r a b = record { entries = omega (arith, r.entries, a); spare = omega (arith, r.spare, b) }
 
 -- the references of all of them are named
 pub all_ready_named : (g : Grammar) (names : List Ref) (os : List Opening) → All (IsReady g names) os → all_named names (all_inherited (map held_in os)) ≡ true
 all_ready_named g names [] r = refl
-all_ready_named g names (o ∷ os) r = all_named-append names o.held.inherited (all_inherited (map held_in os))
-    (ready_named g names o (r 0 o (omega arith))) (all_ready_named g names os (λ k d l. r (suc k) d (omega (arith, l))))
+all_ready_named g names (o ∷ os) r = all_named-append names o.held.inherited (all_inherited (map held_in os)) (ready_named g names o (r 0 o (omega arith)))
+    (all_ready_named g names os (λ k d l. r (suc k) d (omega (arith, l))))

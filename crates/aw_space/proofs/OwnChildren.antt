@@ -30,14 +30,14 @@ each_cases : (P : Held → Type 0) (b : Bool) (c : Call) (ds : List MadeChild) �
 each_cases P true c ds here rest = (here refl, rest)
 each_cases P false c ds here rest = rest
 
-pub own_each : (g : Grammar) (role : ℕ) (P : Held → Type 0) (cs : List Call) → Each (λ (c : Call). is_home g role c.node ≡ true →
-    P (open_child (as_child c))) cs → Each P (own_children g role (map as_child cs))
+pub own_each : (g : Grammar) (role : ℕ) (P : Held → Type 0) (cs : List Call) → Each (λ (c : Call). is_home g role c.node ≡ true → P (open_child (as_child c))) cs →
+    Each P (own_children g role (map as_child cs))
 own_each g role P [] all = tt
 own_each g role P (c ∷ cs) all =
     each_cases P (is_home g role c.node) c (filter (λ (d : MadeChild). is_home g role d.node) (map as_child cs)) all.0 (own_each g role P cs all.1)
 
-later_cases : (R : Held → Held → Type 0) (b : Bool) (c : Call) (ds : List MadeChild) → Each (R (open_child (as_child c))) (map open_child ds) →
-    Later R (map open_child ds) → Later R (map open_child (cond b (as_child c ∷ ds) ds))
+later_cases : (R : Held → Held → Type 0) (b : Bool) (c : Call) (ds : List MadeChild) → Each (R (open_child (as_child c))) (map open_child ds) → Later R (map open_child ds) →
+    Later R (map open_child (cond b (as_child c ∷ ds) ds))
 later_cases R true c ds here rest = (here, rest)
 later_cases R false c ds here rest = rest
 

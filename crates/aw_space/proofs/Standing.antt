@@ -49,8 +49,8 @@ pub node_here : (g : P.Grammar) (n : Node) (hs : List Held) (i : ℕ) (h : Held)
 node_here g n hs i h e f = let w = held_here g n hs i e in ap (λ (x : Held). x.node) (same_Some _ _ (sym f ∙ w.1)) ∙ w.2
 
 -- the rule behind a look-up's reference
-pub found_rule : (rules : List Rule) (number : ℕ) (found : Option (Bor Rule)) (rule : Bor Rule) → option_copied found ≡ slice_get rules number →
-    found ≡ Some rule → slice_get rules number ≡ Some rule.now
+pub found_rule : (rules : List Rule) (number : ℕ) (found : Option (Bor Rule)) (rule : Bor Rule) → option_copied found ≡ slice_get rules number → found ≡ Some rule →
+    slice_get rules number ≡ Some rule.now
 found_rule rules number found rule e f = sym e ∙ ap option_copied f
 
 -- at most 64 variables enter in the patterns of a rule
@@ -69,8 +69,8 @@ pub sort_here : (g : P.Grammar) (n : Node) (rs : List Ref) → takes_as g (sort_
 sort_here g n rs t = (many_cases g n rs (sort_of g n) refl t).0
 
 -- a rule of its sort has as many patterns
-pub same_many : (g : Grammar) (number : ℕ) (rule : Rule) (n : Node) (rs : List Ref) → slice_get g.rules number ≡ Some rule → takes_as (grammar_of g)
-    (sort_of (grammar_of g) n) rs ≡ true → rule.sort ≡ sort_at (grammar_of g) n → length rule.patterns ≡ length rs
+pub same_many : (g : Grammar) (number : ℕ) (rule : Rule) (n : Node) (rs : List Ref) → slice_get g.rules number ≡ Some rule →
+    takes_as (grammar_of g) (sort_of (grammar_of g) n) rs ≡ true → rule.sort ≡ sort_at (grammar_of g) n → length rule.patterns ≡ length rs
 same_many g number rule n rs here t e =
     patterns_taken g number rule here ∙ ap (λ s. takes_of (slice_get (grammar_of g).sorts s)) e ∙ sym (many_cases (grammar_of g) n rs (sort_of (grammar_of g) n) refl t).1
 
@@ -83,23 +83,18 @@ pub weighs_open : (g : Grammar) (number : ℕ) (rule : Rule) (k : Map) (args : L
     weighed_of (rule_of g.sorts rule) w ≡ by_rule (Some (rule_of g.sorts rule)) k held.node args (held_of (grammar_of g) held) →
     Weighs (grammar_of g) number w (by_held (Some (held_of (grammar_of g) held)) (grammar_of g) k held.node number args)
 weighs_open g number rule k args held w here idle e r there =
-    let at = λ (done : Option Choice). by_held (Some (record {
-      node = held.node;
-      sort = sort_or (sort_of (grammar_of g) held.node);
-      inherited =
-          held.inherited;
-      state = state_of done;
-    })) (grammar_of g) k held.node number args in
+    let at = λ (done : Option Choice). by_held
+    (Some (record { node = held.node; sort = sort_or (sort_of (grammar_of g) held.node); inherited = held.inherited; state = state_of done })) (grammar_of g) k held.node number args in
     let h : H.Held = record { node = held.node; sort = sort_or (sort_of (grammar_of g) held.node); inherited = held.inherited; state = state_of None } in
     let same = same_rule g number rule r here there in
     let met : weighed_of (rule_of g.sorts rule) w ≡ by_rule (Some (rule_of g.sorts rule)) k held.node args h = e in
-    let found : by_rule (Some (rule_of g.sorts rule)) k held.node args h ≡ at None = ap (λ o. by_rule o k held.node args h)
-    (sym (slice_get-map (rule_of g.sorts) g.rules number ∙ ap (option_map (rule_of g.sorts)) here)) in
+    let found : by_rule (Some (rule_of g.sorts rule)) k held.node args h ≡ at None =
+    ap (λ o. by_rule o k held.node args h) (sym (slice_get-map (rule_of g.sorts) g.rules number ∙ ap (option_map (rule_of g.sorts)) here)) in
     ap (λ x. weighed_of x w) (sym same) ∙ met ∙ found ∙ ap at (sym idle)
 
 -- a node that is done takes none
-pub weighs_done : (g : P.Grammar) (number : ℕ) (k : Map) (args : List Ground) (held : Held) (done : Option Choice) → held.done ≡ done →
-    is_some done ≡ true → Weighs g number (weighed.Refused answer.Developed) (by_held (Some (held_of g held)) g k held.node number args)
+pub weighs_done : (g : P.Grammar) (number : ℕ) (k : Map) (args : List Ground) (held : Held) (done : Option Choice) → held.done ≡ done → is_some done ≡ true →
+    Weighs g number (weighed.Refused answer.Developed) (by_held (Some (held_of g held)) g k held.node number args)
 weighs_done g number k args held None is e r there = absurd cc
 weighs_done g number k args held (Some (choice.Start s l)) is e r there =
     ap (λ d. by_held (Some (record { node = held.node; sort = sort_or (sort_of g held.node); inherited = held.inherited; state = state_of d })) g k held.node number args) (sym is)

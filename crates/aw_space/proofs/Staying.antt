@@ -72,9 +72,8 @@ pub nodes_called : (c : Option Call) (hs : List Held) → KeepsNodes hs (with_ca
 nodes_called None hs = λ h m. m
 nodes_called (Some c) hs = held_cases (held_of c.node hs) c hs
 
-mark_cases : (t : Bool) (n : Node) (r : ℕ) (args : List Ground) (h : Held) (ks : List Held) → node_eq n h.node ≡ t →
-    Member (cond t (record h { state = Done r args }) h) ks → Member h ks ⊎ ((h.node ≡ n) × (r : ℕ) × (args : List Ground)
-    × Member (record h { state = Done r args }) ks)
+mark_cases : (t : Bool) (n : Node) (r : ℕ) (args : List Ground) (h : Held) (ks : List Held) → node_eq n h.node ≡ t → Member (cond t (record h { state = Done r args }) h) ks →
+    Member h ks ⊎ ((h.node ≡ n) × (r : ℕ) × (args : List Ground) × Member (record h { state = Done r args }) ks)
 mark_cases true n r args h ks e m = inr (sym (node_is n h.node e), r, args, m)
 mark_cases false n r args h ks e m = inl m
 

@@ -21,30 +21,30 @@ use Rattle.aw_space.specs.declared.opening.Opening.{Opening}
 use Rattle.aw_space.specs.declared.space.Space.{Space}
 use Rattle.aw_space.proofs.Called.{grown_sound}
 use Rattle.aw_space.proofs.Openings.{ready_grows}
-use Rattle.aw_space.proofs.Waking.{grown_same}
+use Rattle.aw_space.proofs.Waking.{grown_same, kept_placed}
 
 -- all that holds of a space
-pub record InStep (g : Grammar) (role : ℕ) (hs : List Held) (k : Map) (names : List Ref) (kept : Kept) : Type 0 where
-  pub sound : IsSound g role hs k names
-  pub valid : IsValid g hs k
-  pub stands : IsKept g hs k names kept
+pub record InStep (g : Grammar) (role : ℕ) (row : Row) (k : Map) (names : List Ref) (kept : Kept) : Type 0 where
+  pub sound : IsSound g role row.items k names
+  pub valid : IsValid g row.items k
+  pub stands : IsKept g row k names kept
 
-module _ (g : Grammar) (role : ℕ) (hs : List Held) (k : Map) (names : List Ref) (kept : Kept) (sound : IsSound g role hs k names) (valid : IsValid g hs k)
-    (stands : IsKept g hs k names kept) where
+module _ (g : Grammar) (role : ℕ) (row : Row) (k : Map) (names : List Ref) (kept : Kept) (sound : IsSound g role row.items k names) (valid : IsValid g row.items k)
+    (stands : IsKept g row k names kept) where
   -- where references are named
-  pub step_named : (l : Map) (more : List Ref) → l ≡ k → Grows names more → InStep g role hs l more kept
+  pub step_named : (l : Map) (more : List Ref) → l ≡ k → Grows names more → InStep g role row l more kept
   step_named l more is grows = record {
-    sound = subst (λ m. IsSound g role hs m more) (sym is) (grown_sound g role hs hs k names more sound grows refl);
-    valid = subst (λ m. IsValid g hs m) (sym is) valid;
-    stands = grown_same g hs k l names more kept is grows stands;
+    sound = subst (λ m. IsSound g role row.items m more) (sym is) (grown_sound g role row.items row.items k names more sound grows refl);
+    valid = subst (λ m. IsValid g row.items m) (sym is) valid;
+    stands = grown_same g row k l names more kept is grows stands;
   }
 
   -- where room for nodes is made
-  pub step_placed : (ks : List Held) → ks ≡ hs → InStep g role ks k names kept
-  step_placed ks is = record {
+  pub step_placed : (new : Row) → new.items ≡ row.items → new.numbers ≡ row.numbers → InStep g role new k names kept
+  step_placed new is same = record {
     sound = subst (λ xs. IsSound g role xs k names) (sym is) sound;
     valid = subst (λ xs. IsValid g xs k) (sym is) valid;
-    stands = subst (λ xs. IsKept g xs k names kept) (sym is) stands;
+    stands = kept_placed g row new k names kept is same stands;
   }
 
 module _ {F : Type 0} (f : Ghosts F) where

@@ -40,8 +40,8 @@ guard_met n rule (Waits r) e = absurd cc
 guard_met n rule (Differs p) e = absurd cc
 guard_met n rule (Circle r) e = absurd cc
 
-rule_met : (g : Grammar) (k : Map) (n : Node) (r : ℕ) (args : List Ground) (h : P.Held) (o : Option Rule) → slice_get g.rules r ≡ o →
-    answer_of (by_rule o k n args h) ≡ Taken → TookRule g k n r args h (by_rule o k n args h)
+rule_met : (g : Grammar) (k : Map) (n : Node) (r : ℕ) (args : List Ground) (h : P.Held) (o : Option Rule) → slice_get g.rules r ≡ o → answer_of (by_rule o k n args h) ≡ Taken →
+    TookRule g k n r args h (by_rule o k n args h)
 rule_met g k n r args h None is e = absurd cc
 rule_met g k n r args h (Some rule) is e =
     let m = guard_all k 1 rule.patterns h.inherited in
@@ -69,8 +69,8 @@ pub record Took (g : Grammar) (hs : List Held) (k : Map) (n : Node) (r : ℕ) (a
   pub idle : held.done ≡ None
   pub rule : TookRule g k n r args (held_of g held) (outcome_in (all_of g hs) k g (Develop n r args))
 
-state_met : (g : Grammar) (k : Map) (n : Node) (r : ℕ) (args : List Ground) (h : P.Held) (done : Option Choice) →
-    answer_of (by_state (state_of done) g k n r args h) ≡ Taken → (done ≡ None) × TookRule g k n r args h (by_state (state_of done) g k n r args h)
+state_met : (g : Grammar) (k : Map) (n : Node) (r : ℕ) (args : List Ground) (h : P.Held) (done : Option Choice) → answer_of (by_state (state_of done) g k n r args h) ≡ Taken →
+    (done ≡ None) × TookRule g k n r args h (by_state (state_of done) g k n r args h)
 state_met g k n r args h None e = (refl, rule_met g k n r args h (slice_get g.rules r) refl e)
 state_met g k n r args h (Some (choice.Start sort case)) e = absurd cc
 state_met g k n r args h (Some (choice.Develop node rule args')) e = absurd cc
@@ -88,8 +88,8 @@ place_met g hs k n r args (Some at) e taken =
 pub took : (g : Grammar) (hs : List Held) (k : Map) (n : Node) (r : ℕ) (args : List Ground) → answer_of (outcome_in (all_of g hs) k g (Develop n r args)) ≡ Taken → Took g hs k n r args
 took g hs k n r args e = place_met g hs k n r args (place_in n hs) refl e
 
-start_met : (g : Grammar) (hs : List Held) (k : Map) (s l : ℕ) (o : Option ℕ) → place_in (root s l) hs ≡ o →
-    answer_of (outcome_in (all_of g hs) k g (Start s l)) ≡ Taken → (place_in (root s l) hs ≡ None) × (outcome_in (all_of g hs) k g (Start s l) ≡ Starts)
+start_met : (g : Grammar) (hs : List Held) (k : Map) (s l : ℕ) (o : Option ℕ) → place_in (root s l) hs ≡ o → answer_of (outcome_in (all_of g hs) k g (Start s l)) ≡ Taken →
+    (place_in (root s l) hs ≡ None) × (outcome_in (all_of g hs) k g (Start s l) ≡ Starts)
 start_met g hs k s l None e taken = (e, ap by_root (held_nowhere g (root s l) hs e))
 start_met g hs k s l (Some at) e taken =
     let w = held_here g (root s l) hs at e in

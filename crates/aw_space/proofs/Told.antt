@@ -19,8 +19,8 @@ pub is_false : (b : Bool) → not b ≡ true → b ≡ false
 is_false true e = absurd cc
 is_false false e = refl
 
-one_done : (g : Grammar) (role : ℕ) (hs : List Held) (k : Map) (e : Equation) (o : Option Body) → is_home g role e.left.node ≡ false →
-    all_done g role hs k ≡ true → all_done g role hs (add_on o k e) ≡ true
+one_done : (g : Grammar) (role : ℕ) (hs : List Held) (k : Map) (e : Equation) (o : Option Body) → is_home g role e.left.node ≡ false → all_done g role hs k ≡ true →
+    all_done g role hs (add_on o k e) ≡ true
 one_done g role hs k e None other all = done-push g role hs k e all (ap (λ b. not b || is_done e.left.node hs) other)
 one_done g role hs k e (Some b) other all = all
 

@@ -15,7 +15,9 @@ use Rattle.aw_store.specs.StoreView.{Adds}
 use Rattle.aw_store.specs.declared.equation.Equation as program
 use Rattle.aw_store.specs.declared.facts.Added.{Added}
 use Rattle.aw_store.specs.declared.facts.Added.TheVariants.{New, Same, Conflict}
-use Rattle.aw_node_list.specs.declared.held.Held.{Held}
+use Rattle.aw_choice.specs.declared.choice.Choice.{Choice}
+use Rattle.aw_node_list.specs.InOrder.{done_at}
+use Rattle.aw_node_list.specs.Row.{Row}
 use Rattle.aw_node_list.specs.HeldView.{all_of}
 use Rattle.aw_law_sites.specs.Receiving.{add_on}
 use Rattle.aw_law_sites.specs.Worklists.{site_worklist}
@@ -23,20 +25,34 @@ use Rattle.aw_work.specs.Triples.{waiting_at}
 use Rattle.aw_standing.specs.Items.{waiting_on}
 use Rattle.aw_standing.proofs.ItemLemmas.{pairs_wait}
 use Rattle.aw_standing.specs.declared.kept.Kept.{Kept}
-use Rattle.aw_standing.specs.KeptStates.{IsFitKept, IsKept, IsKeptBut, AreLate}
+use Rattle.aw_standing.specs.KeptStates.{AreKept, IsFitKept, IsKept, IsKeptBut, IsKeptDone, AreLate}
 use Rattle.aw_standing.proofs.Growing.{fit_grows, kept_named, kept_grown}
 use Rattle.aw_space.specs.Waking.{IsKnown, IsBound, left_of, lefts_of}
 
 -- it stays fit where names come
 pub fits_named : (g : Grammar) (names more : List Ref) (kept : Kept) → Grows names more → IsFitKept g names kept → IsFitKept g more kept
-fits_named g names more kept grows f = record { apart = f.apart; known = f.known; fit = λ i n x e u. fit_grows names more grows g x (f.fit i n x e u); waiting = f.waiting }
+fits_named g names more kept grows (ns, f) =
+    (ns, record { counted = f.counted; apart = f.apart; known = f.known; fit = λ i n x e u. fit_grows names more grows g x (f.fit i n x e u); waiting = f.waiting })
 
-pub named_more : (g : Grammar) (hs : List Held) (k : Map) (names more : List Ref) (kept : Kept) → Grows names more → IsKept g hs k names kept → IsKept g hs k more kept
-named_more g hs k names more kept grows w = kept_named names more grows g hs k [] kept.numbers.items kept.records.items kept.work.waiting w
+pub named_more : (g : Grammar) (row : Row) (k : Map) (names more : List Ref) (kept : Kept) → Grows names more → IsKept g row k names kept → IsKept g row k more kept
+named_more g row k names more kept grows w = kept_named names more grows g row.items k [] row.numbers kept.records.items kept.work.waiting w
 
 -- what is kept stays so where names come and the equations are the same
-pub grown_same : (g : Grammar) (hs : List Held) (k l : Map) (names more : List Ref) (kept : Kept) → l ≡ k → Grows names more → IsKept g hs k names kept → IsKept g hs l more kept
-grown_same g hs k l names more kept is grows w = subst (λ m. IsKept g hs m more kept) (sym is) (named_more g hs k names more kept grows w)
+pub grown_same : (g : Grammar) (row : Row) (k l : Map) (names more : List Ref) (kept : Kept) → l ≡ k → Grows names more → IsKept g row k names kept → IsKept g row l more kept
+grown_same g row k l names more kept is grows w = subst (λ m. IsKept g row m more kept) (sym is) (named_more g row k names more kept grows w)
+
+-- and where the same nodes have the same numbers
+pub kept_placed : (g : Grammar) (row new : Row) (k : Map) (names : List Ref) (kept : Kept) → new.items ≡ row.items → new.numbers ≡ row.numbers → IsKept g row k names kept → IsKept g new k names kept
+kept_placed g row new k names kept is same w =
+    subst (λ hs. AreKept g hs k names [] new.numbers kept.records.items kept.work.waiting) (sym is)
+    (subst (λ ns. AreKept g row.items k names [] ns kept.records.items kept.work.waiting) (sym same) w)
+
+-- and where a node was developed that was closed
+pub closed_row : (g : Grammar) (row new : Row) (k : Map) (names : List Ref) (kept : Kept) (at : ℕ) (c : Choice) → new.items ≡ done_at c at row.items → new.numbers ≡ row.numbers →
+    IsKeptDone g row at c k names [] kept → IsKept g new k names kept
+closed_row g row new k names kept at c is same w =
+    subst (λ hs. AreKept g hs k names [] new.numbers kept.records.items kept.work.waiting) (sym is)
+    (subst (λ ns. AreKept g (done_at c at row.items) k names [] ns kept.records.items kept.work.waiting) (sym same) w)
 
 -- an equation that is not new changes nothing
 pub told_same : (k l : Map) (e : program.Equation) (a : Added) → Adds k e a l → (a ≡ New → ⊥) → l ≡ k
@@ -69,10 +85,10 @@ not_left r l e = by (ref_eq r l) e
 pub one_late : (k l : Map) (e : Equation) → l ≡ k ++ e ∷ [] → AreLate k l [] (e.left ∷ [])
 one_late k l e is r other = (refl, λ none. ap (λ m. find m r) is ∙ find-right_more k (e ∷ []) r none ∙ ap (λ b. cond b (Some e.body) None) (not_left r e.left other))
 
-pub grown_by : (g : Grammar) (hs : List Held) (k l : Map) (names : List Ref) (e : Equation) (kept : Kept) → l ≡ k ++ e ∷ [] → IsKept g hs k names kept → IsKeptBut g hs l names (e.left ∷ []) kept
-grown_by g hs k l names e kept is w =
-    kept_grown k l names [] (e.left ∷ []) (λ r b f. subst (λ m. find m r ≡ Some b) (sym is) (find-left_more k (e ∷ []) r b f)) (one_late k l e is) g
-    hs kept.numbers.items kept.records.items kept.work.waiting w
+pub grown_by : (g : Grammar) (row : Row) (k l : Map) (names : List Ref) (e : Equation) (kept : Kept) → l ≡ k ++ e ∷ [] → IsKept g row k names kept → IsKeptBut g row l names (e.left ∷ []) kept
+grown_by g row k l names e kept is w =
+    kept_grown k l names [] (e.left ∷ []) (λ r b f. subst (λ m. find m r ≡ Some b) (sym is) (find-left_more k (e ∷ []) r b f))
+    (one_late k l e is) g row.items row.numbers kept.records.items kept.work.waiting w
 
 -- ---- left sides in turn
 
@@ -121,11 +137,11 @@ none_there (x ∷ xs) r e = by (ref_eq r x.left) (none_there xs r) e
 pub all_late : (k l : Map) (es : List program.Equation) → l ≡ k ++ map equation_of es → AreLate k l [] (map left_of es)
 all_late k l es is r other = (refl, λ none. ap (λ m. find m r) is ∙ find-right_more k (map equation_of es) r none ∙ none_there es r other)
 
-pub grown_by_all : (g : Grammar) (hs : List Held) (k l : Map) (names : List Ref) (es : List program.Equation) (kept : Kept) →
-    l ≡ k ++ map equation_of es → IsKept g hs k names kept → IsKeptBut g hs l names (map left_of es) kept
-grown_by_all g hs k l names es kept is w =
+pub grown_by_all : (g : Grammar) (row : Row) (k l : Map) (names : List Ref) (es : List program.Equation) (kept : Kept) → l ≡ k ++ map equation_of es → IsKept g row k names kept →
+    IsKeptBut g row l names (map left_of es) kept
+grown_by_all g row k l names es kept is w =
     kept_grown k l names [] (map left_of es) (λ r b f. subst (λ m. find m r ≡ Some b) (sym is) (find-left_more k (map equation_of es) r b f))
-    (all_late k l es is) g hs kept.numbers.items kept.records.items kept.work.waiting w
+    (all_late k l es is) g row.items row.numbers kept.records.items kept.work.waiting w
 
 found_in : (es : List program.Equation) (i : ℕ) (e : program.Equation) → slice_get es i ≡ Some e → is_some (find (map equation_of es) e.left) ≡ true
 found_in [] i e here = absurd cc
@@ -160,11 +176,11 @@ sum_lefts most (x ∷ xs) =
     omega (arith, sum_by-cons most x.left (map left_of xs), sum_by-cons (λ (e : Equation). most e.left) (equation_of x) (map equation_of xs), sum_lefts most xs)
 
 -- where a node was closed, no more rules wait for a reference than the worklist showed
-pub closed_bound : (g : Grammar) (hs : List Held) (k l : Map) (names : List Ref) (old new : Kept) → IsNamedOnce names →
-    ((q : ℕ) → waiting_at q new.work.waiting ≤ waiting_at q old.work.waiting) → IsKept g hs k names old →
-    IsBound l names new (λ r. waiting_on r (site_worklist g k (all_of g hs)))
-closed_bound g hs k l names old new once fewer w slot r here known =
-    omega (arith, fewer slot, pairs_wait names once slot r here g k hs old.numbers.items old.records.items old.work.waiting w)
+pub closed_bound : (g : Grammar) (row : Row) (k l : Map) (names : List Ref) (old new : Kept) → IsNamedOnce names →
+    ((q : ℕ) → waiting_at q new.work.waiting ≤ waiting_at q old.work.waiting) → IsKept g row k names old →
+    IsBound l names new (λ r. waiting_on r (site_worklist g k (all_of g row.items)))
+closed_bound g row k l names old new once fewer w slot r here known =
+    omega (arith, fewer slot, pairs_wait names once slot r here g k row.items row.numbers old.records.items old.work.waiting w)
 
 -- ---- left sides that are named
 

@@ -33,5 +33,5 @@ refused_other a bound e = absurd cc
 -- a rule of the node's sort stands at the open node as it stands by its number
 pub stands_there : (g : Grammar) (k : Map) (held : Held) (number : ℕ) (rule : Rule) (sort : ℕ) (s : Standing) → StandsAt (grammar_of g) k held number s → slice_get g.rules number ≡ Some rule →
     sort_or (sort_of (grammar_of g) held.node) ≡ sort → held.done ≡ None → rule.sort ≡ sort → RuleStands k held.node held.inherited (rule_of g.sorts rule) s
-stands_there g k held number rule sort s stands here last idle same = stands (rule_of g.sorts rule) (slice_get-map (rule_of g.sorts) g.rules number
-    ∙ ap (option_map (rule_of g.sorts)) here) (same ∙ sym last) idle
+stands_there g k held number rule sort s stands here last idle same =
+    stands (rule_of g.sorts rule) (slice_get-map (rule_of g.sorts) g.rules number ∙ ap (option_map (rule_of g.sorts)) here) (same ∙ sym last) idle

@@ -2,7 +2,7 @@
 ghost use Rattle.std.specs.Prelude.{◌≡◌, ◌≤◌, ◌+◌, ◌∷◌, ℕ, List, All, Some, None, true, IfOk, IsOk, OnErr, Contains, is_some, map as list_map, slice_get, sum_by};
 ghost use Rattle.aw_term.specs.Names.{Ref as RefName};
 ghost use Rattle.aw_grammar.specs.GrammarOf.{grammar_of};
-ghost use Rattle.aw_node_list.specs.declared.held.Held.{Held as HeldValue};
+ghost use Rattle.aw_node_list.specs.Row.{Row};
 ghost use Rattle.aw_node_list.specs.HeldView.{all_of};
 ghost use Rattle.aw_store.specs.Equations.{Equation as PlainEquation, find};
 ghost use Rattle.aw_store.specs.EquationView.{equation_of};
@@ -41,10 +41,10 @@ fn tell<F: Facts, L: Ledger>(
     ensures ready { F.is_ready facts.old (equation_of e) → (x : PlainEquation) → F.is_ready facts.old x → F.is_ready facts.new x }
     ensures sure { F.is_ready facts.old (equation_of e) → IsAddable (F.map facts.old) (equation_of e) → IsOk result }
     ensures fits { IsFitKept (grammar_of grammar.now) (F.names facts.new) kept.new }
-    ensures kept { (hs : List HeldValue) → IsKept (grammar_of grammar.now) hs (F.map facts.old) (F.names facts.old) kept.old →
-        IsKept (grammar_of grammar.now) hs (F.map facts.new) (F.names facts.new) kept.new }
-    ensures steps { (hs : List HeldValue) → IsKept (grammar_of grammar.now) hs (F.map facts.old) (F.names facts.old) kept.old →
-        steps.new ≤ steps.old + waiting_on e.left (site_worklist (grammar_of grammar.now) (F.map facts.old) (all_of (grammar_of grammar.now) hs)) }
+    ensures kept { (row : Row) → IsKept (grammar_of grammar.now) row (F.map facts.old) (F.names facts.old) kept.old →
+        IsKept (grammar_of grammar.now) row (F.map facts.new) (F.names facts.new) kept.new }
+    ensures steps { (row : Row) → IsKept (grammar_of grammar.now) row (F.map facts.old) (F.names facts.old) kept.old →
+        steps.new ≤ steps.old + waiting_on e.left (site_worklist (grammar_of grammar.now) (F.map facts.old) (all_of (grammar_of grammar.now) row.items)) }
 {
     match facts.add(e)? {
         Added::New => {
@@ -69,10 +69,10 @@ pub fn learn<F: Facts, L: Ledger>(
     ensures added { IfOk result (λ added. Adds (F.map facts.old) e added (F.map facts.new)) }
     ensures names { Grows (F.names facts.old) (F.names facts.new) }
     ensures err { OnErr result (F.map facts.new ≡ F.map facts.old) }
-    ensures kept { (hs : List HeldValue) → IsKept (grammar_of grammar.now) hs (F.map facts.old) (F.names facts.old) kept.old →
-        IsKept (grammar_of grammar.now) hs (F.map facts.new) (F.names facts.new) kept.new }
-    ensures steps { (hs : List HeldValue) → IsKept (grammar_of grammar.now) hs (F.map facts.old) (F.names facts.old) kept.old →
-        steps.new ≤ steps.old + waiting_on e.left (site_worklist (grammar_of grammar.now) (F.map facts.old) (all_of (grammar_of grammar.now) hs)) }
+    ensures kept { (row : Row) → IsKept (grammar_of grammar.now) row (F.map facts.old) (F.names facts.old) kept.old →
+        IsKept (grammar_of grammar.now) row (F.map facts.new) (F.names facts.new) kept.new }
+    ensures steps { (row : Row) → IsKept (grammar_of grammar.now) row (F.map facts.old) (F.names facts.old) kept.old →
+        steps.new ≤ steps.old + waiting_on e.left (site_worklist (grammar_of grammar.now) (F.map facts.old) (all_of (grammar_of grammar.now) row.items)) }
 {
     match facts.intern(&e.left) {
         Ok(slot) => tell(grammar, facts, kept, slot, e, steps),
@@ -101,10 +101,10 @@ fn learn_sure<F: Facts, L: Ledger>(
     ensures ready { (x : PlainEquation) → F.is_ready facts.old x → F.is_ready facts.new x }
     ensures names { Grows (F.names facts.old) (F.names facts.new) }
     ensures fits { IsFitKept (grammar_of grammar.now) (F.names facts.new) kept.new }
-    ensures kept { (hs : List HeldValue) → IsKept (grammar_of grammar.now) hs (F.map facts.old) (F.names facts.old) kept.old →
-        IsKept (grammar_of grammar.now) hs (F.map facts.new) (F.names facts.new) kept.new }
-    ensures steps { (hs : List HeldValue) → IsKept (grammar_of grammar.now) hs (F.map facts.old) (F.names facts.old) kept.old →
-        steps.new ≤ steps.old + waiting_on e.left (site_worklist (grammar_of grammar.now) (F.map facts.old) (all_of (grammar_of grammar.now) hs)) }
+    ensures kept { (row : Row) → IsKept (grammar_of grammar.now) row (F.map facts.old) (F.names facts.old) kept.old →
+        IsKept (grammar_of grammar.now) row (F.map facts.new) (F.names facts.new) kept.new }
+    ensures steps { (row : Row) → IsKept (grammar_of grammar.now) row (F.map facts.old) (F.names facts.old) kept.old →
+        steps.new ≤ steps.old + waiting_on e.left (site_worklist (grammar_of grammar.now) (F.map facts.old) (all_of (grammar_of grammar.now) row.items)) }
 {
     match facts.slot_of(&e.left) {
         Some(slot) => match tell(grammar, facts, kept, slot, e, steps) {
@@ -131,10 +131,10 @@ pub fn learn_in_turn<F: Facts, L: Ledger>(
     requires fits { IsFitKept (grammar_of grammar.now) (F.names facts.old) kept.old }
     ensures map { F.map facts.new ≡ add_all (F.map facts.old) (list_map equation_of es.items) }
     ensures names { Grows (F.names facts.old) (F.names facts.new) }
-    ensures kept { (hs : List HeldValue) → IsKept (grammar_of grammar.now) hs (F.map facts.old) (F.names facts.old) kept.old →
-        IsKept (grammar_of grammar.now) hs (F.map facts.new) (F.names facts.new) kept.new }
-    ensures steps { (hs : List HeldValue) → IsKept (grammar_of grammar.now) hs (F.map facts.old) (F.names facts.old) kept.old →
-        steps.new ≤ steps.old + turns_cost (grammar_of grammar.now) (all_of (grammar_of grammar.now) hs) (F.map facts.old) (list_map equation_of es.items) }
+    ensures kept { (row : Row) → IsKept (grammar_of grammar.now) row (F.map facts.old) (F.names facts.old) kept.old →
+        IsKept (grammar_of grammar.now) row (F.map facts.new) (F.names facts.new) kept.new }
+    ensures steps { (row : Row) → IsKept (grammar_of grammar.now) row (F.map facts.old) (F.names facts.old) kept.old →
+        steps.new ≤ steps.old + turns_cost (grammar_of grammar.now) (all_of (grammar_of grammar.now) row.items) (F.map facts.old) (list_map equation_of es.items) }
 {
     for e in es {
         learn_sure(grammar, facts, kept, e, steps);
@@ -152,9 +152,9 @@ fn wake<F: Facts, L: Ledger>(
     requires fits { IsFitKept (grammar_of grammar.now) (F.names facts.now) kept.old }
     requires known { is_some (find (F.map facts.now) left.now) ≡ true }
     ensures fits { IsFitKept (grammar_of grammar.now) (F.names facts.now) kept.new }
-    ensures kept { (hs : List HeldValue) (late : List RefName) →
-        IsKeptBut (grammar_of grammar.now) hs (F.map facts.now) (F.names facts.now) (left.now ∷ late) kept.old →
-        IsKeptBut (grammar_of grammar.now) hs (F.map facts.now) (F.names facts.now) late kept.new }
+    ensures kept { (row : Row) (late : List RefName) →
+        IsKeptBut (grammar_of grammar.now) row (F.map facts.now) (F.names facts.now) (left.now ∷ late) kept.old →
+        IsKeptBut (grammar_of grammar.now) row (F.map facts.now) (F.names facts.now) late kept.new }
     ensures room { (n w : ℕ) → HasRoom kept.old n w → HasRoom kept.new n w }
     ensures steps { (most : RefName → ℕ) → IsBound (F.map facts.now) (F.names facts.now) kept.old most → steps.new ≤ steps.old + most left.now }
     ensures fewer { (most : RefName → ℕ) → IsBound (F.map facts.now) (F.names facts.now) kept.old most →
@@ -187,8 +187,8 @@ pub fn wake_all<F: Facts, L: Ledger>(
 )
     requires fits { IsFitKept (grammar_of grammar.now) (F.names facts.now) kept.old }
     requires known { All (IsKnown (F.map facts.now)) lefts.now }
-    ensures kept { (hs : List HeldValue) → IsKeptBut (grammar_of grammar.now) hs (F.map facts.now) (F.names facts.now) lefts.now kept.old →
-        IsKept (grammar_of grammar.now) hs (F.map facts.now) (F.names facts.now) kept.new }
+    ensures kept { (row : Row) → IsKeptBut (grammar_of grammar.now) row (F.map facts.now) (F.names facts.now) lefts.now kept.old →
+        IsKept (grammar_of grammar.now) row (F.map facts.now) (F.names facts.now) kept.new }
     ensures room { (n w : ℕ) → HasRoom kept.old n w → HasRoom kept.new n w }
     ensures steps { (most : RefName → ℕ) → IsBound (F.map facts.now) (F.names facts.now) kept.old most → steps.new ≤ steps.old + sum_by most lefts.now }
 {

@@ -53,19 +53,19 @@ pub fn put_open<F: Facts, L: Ledger>(
     requires ordered { IsInOrder held.old.items }
     requires lacks { Lacks new.held.node held.old.items }
     requires ready { IsReady (grammar_of grammar.now) (F.names facts.now) new }
-    requires stands { IsKept (grammar_of grammar.now) held.old.items (F.map facts.now) (F.names facts.now) kept.old }
+    requires stands { IsKept (grammar_of grammar.now) held.old (F.map facts.now) (F.names facts.now) kept.old }
     requires place { 0 < held.old.room }
     requires room { HasRoom kept.old 1 (tests_of new) }
     ensures items { held.new.items ≡ insert_in new.held held.old.items }
     ensures ordered { IsInOrder held.new.items }
     ensures place { held.old.room ≤ held.new.room + 1 }
-    ensures stands { IsKept (grammar_of grammar.now) held.new.items (F.map facts.now) (F.names facts.now) kept.new }
+    ensures stands { IsKept (grammar_of grammar.now) held.new (F.map facts.now) (F.names facts.now) kept.new }
     ensures room { (n w : ℕ) → HasRoom kept.old (n + 1) (w + tests_of new) → HasRoom kept.new n w }
     ensures steps { steps.new ≡ steps.old + tests_of new }
 {
     let Opening { held: node, entry } = new;
-    let at = put_between(held, node);
-    kept.open(at, entry, grammar, facts, steps);
+    put_between(held, node);
+    kept.open(entry, grammar, facts, steps);
 }
 
 /// Holds each of these nodes in turn, none of which is held. There is room for them.
@@ -80,12 +80,12 @@ pub fn put_all_open<F: Facts, L: Ledger>(
     requires ordered { IsInOrder held.old.items }
     requires lacks { LackEach (list_map held_in more.items) held.old.items }
     requires ready { All (IsReady (grammar_of grammar.now) (F.names facts.now)) more.items }
-    requires stands { IsKept (grammar_of grammar.now) held.old.items (F.map facts.now) (F.names facts.now) kept.old }
+    requires stands { IsKept (grammar_of grammar.now) held.old (F.map facts.now) (F.names facts.now) kept.old }
     requires place { length more.items ≤ held.old.room }
     requires room { HasRoom kept.old (length more.items) (all_tests more.items) }
     ensures items { held.new.items ≡ insert_all_in (list_map held_in more.items) held.old.items }
     ensures ordered { IsInOrder held.new.items }
-    ensures stands { IsKept (grammar_of grammar.now) held.new.items (F.map facts.now) (F.names facts.now) kept.new }
+    ensures stands { IsKept (grammar_of grammar.now) held.new (F.map facts.now) (F.names facts.now) kept.new }
     ensures steps { steps.new ≡ steps.old + all_tests more.items }
 {
     for new in more {

@@ -36,7 +36,7 @@ pub struct Space<'g, F: Facts> {
     pub(crate) kept: Kept,
     pub ghost sound: { IsSound (grammar_of accepted.now.grammar) role held.items (F.map facts) (F.names facts) },
     pub ghost valid: { IsValid (grammar_of accepted.now.grammar) held.items (F.map facts) },
-    pub ghost stands: { IsKept (grammar_of accepted.now.grammar) held.items (F.map facts) (F.names facts) kept },
+    pub ghost stands: { IsKept (grammar_of accepted.now.grammar) held (F.map facts) (F.names facts) kept },
 }
 
 impl<'g, F: Facts> Space<'g, F> {
@@ -302,8 +302,9 @@ impl<'g, F: Facts> Space<'g, F> {
     {
         let mut items = Vec::new(self.held.allocator());
         for at in 0..self.held.len() {
+            let number = self.held.number_at(at);
             self.kept
-                .push_items(at, &self.held.at(at).node, &self.facts, &mut items)?;
+                .push_items(number, &self.held.at(at).node, &self.facts, &mut items)?;
         }
         Ok(Worklist::from_vec(items))
     }

@@ -225,8 +225,9 @@ impl<'g, F: Facts> Space<'g, F> {
         let Taking { copies, own } = taking;
         let Copies { told, done, taken } = copies;
         let grammar = self.accepted.grammar();
+        let number = self.held.number_at(at);
         self.held.mark_done(at, done);
-        self.kept.close(at);
+        self.kept.close(number);
         add_all_ready(&mut self.facts, equations);
         wake_all(grammar, &self.facts, &mut self.kept, told.as_slice(), steps);
         put_all_open(

@@ -53,10 +53,10 @@ fn put_if<F: Facts, L: Ledger>(
     requires ordered { IsInOrder held.old.items }
     requires lacks { LacksIf (option_map held_in new) held.old.items }
     requires ready { IsReadyIf (grammar_of grammar.now) (F.names facts.now) held.old kept.old new }
-    requires stands { IsKept (grammar_of grammar.now) held.old.items (F.map facts.now) (F.names facts.now) kept.old }
+    requires stands { IsKept (grammar_of grammar.now) held.old (F.map facts.now) (F.names facts.now) kept.old }
     ensures items { held.new.items ≡ with_node (option_map held_in new) held.old.items }
     ensures ordered { IsInOrder held.new.items }
-    ensures stands { IsKept (grammar_of grammar.now) held.new.items (F.map facts.now) (F.names facts.now) kept.new }
+    ensures stands { IsKept (grammar_of grammar.now) held.new (F.map facts.now) (F.names facts.now) kept.new }
     ensures steps { steps.new ≡ steps.old + tests_if new }
 {
     match new {

@@ -163,35 +163,29 @@ impl<'g, F: Facts> Space<'g, F> {
         &self,
         found: Option<usize>,
         node: &Node,
-        number: u16,
+        rule: u16,
         args: &Grounds,
         steps: &mut Steps<L>,
     ) -> Result<Weighed, AllocError>
         requires found { found ≡ place_in node.now self.now.held.items }
         requires within { IfSome found (λ at. at < length self.now.held.items) }
-        requires declared { is_some (slice_get self.now.accepted.now.grammar.rules number) ≡ true }
-        ensures room { IfOk result (λ w. HasRoomFor self.now.accepted.now.grammar number node.now w) }
-        ensures value { IfOk result (λ w. Weighs (grammar_in ⟦<F as Facts>⟧ self.now) number w
-            (outcome_here ⟦<F as Facts>⟧ self.now (Develop node.now number (map ground_of args.now)))) }
+        requires declared { is_some (slice_get self.now.accepted.now.grammar.rules rule) ≡ true }
+        ensures room { IfOk result (λ w. HasRoomFor self.now.accepted.now.grammar rule node.now w) }
+        ensures value { IfOk result (λ w. Weighs (grammar_in ⟦<F as Facts>⟧ self.now) rule w
+            (outcome_here ⟦<F as Facts>⟧ self.now (Develop node.now rule (map ground_of args.now)))) }
         ensures steps { steps.new ≤ steps.old + 1 }
         ensures untested { IfOk result (λ w. IsRefused w → steps.new ≡ steps.old) }
     {
         match found {
             Some(place) => {
-                let stands = self.kept.standing(place, number, &self.facts)?;
+                let number = self.held.number_at(place);
+                let stands = self.kept.standing(number, rule, &self.facts)?;
                 let at = RuleAt {
                     held: self.held.at(place),
-                    slots: self.kept.slots(place),
+                    slots: self.kept.slots(number),
                     stands,
                 };
-                weigh_at(
-                    self.accepted.grammar(),
-                    &self.facts,
-                    at,
-                    number,
-                    args,
-                    steps,
-                )
+                weigh_at(self.accepted.grammar(), &self.facts, at, rule, args, steps)
             }
             None => Ok(Weighed::Refused(Answer::NotHere)),
         }

@@ -50,8 +50,8 @@ module _ (g : Grammar) (k : Map) (names : List Ref) (n : ℕ) (old : Record) (ts
     rules = rules ∙ o.rules ∙ ap (λ s. open_rules g s (state_of h.done)) (sym sort);
   }
 
-  pub tested_more : (i : ℕ) (x y : Record) (us vs : List Triple) (m : Mark) → slice_get x.marks.items i ≡ Some m → IsTested g k names n i m x y us
-      vs → TestedTo g k names n i old x ts us → TestedTo g k names n (i + 1) old y ts vs
+  pub tested_more : (i : ℕ) (x y : Record) (us vs : List Triple) (m : Mark) → slice_get x.marks.items i ≡ Some m → IsTested g k names n i m x y us vs →
+      TestedTo g k names n i old x ts us → TestedTo g k names n (i + 1) old y ts vs
   tested_more i x y us vs m mark test t = record {
     fit = fit_set g names n i m test.stands x y us vs mark test.live test.set t.fit;
     told = λ h o j z l e. told_by h o j z l (stood j z e);

@@ -111,8 +111,8 @@ module _ (slot n rule : ℕ) where
   found k m ms stands.TooDeep b e = inl refl
   found k m ms (stands.Waits at) b e = by (is_triple slot n rule (triple at k m.rule)) refl
     where
-      by : (c : Bool) → is_triple slot n rule (triple at k m.rule) ≡ c → (count_by (is_triple slot n rule) (due_of k m.rule (stands.Waits at)) ≡ 0)
-          ⊎ ((stands.Waits at ≡ stands.Waits slot) × (k ≡ n) × (m.rule ≡ rule))
+      by : (c : Bool) → is_triple slot n rule (triple at k m.rule) ≡ c →
+          (count_by (is_triple slot n rule) (due_of k m.rule (stands.Waits at)) ≡ 0) ⊎ ((stands.Waits at ≡ stands.Waits slot) × (k ≡ n) × (m.rule ≡ rule))
       by true t =
           let (a, u) = and_true _ _ t in
           let (c, d) = and_true _ _ u in
@@ -258,8 +258,8 @@ module _ (p : Triple → Bool) (n : ℕ) where
   same_others ts ns xs ys same others gone = counted_here ts ∙ same ∙ due_dropped ns xs ys others gone
 
 -- a triple that waits now
-pub waited : (p : Triple → Bool) (slot n rule : ℕ) (s : Stands) (ts us : List Triple) → s ≡ stands.Waits slot →
-    IsPermutation (triple slot n rule ∷ ts) us → count_by p us ≡ count_by p (due_of n rule s) + count_by p ts
+pub waited : (p : Triple → Bool) (slot n rule : ℕ) (s : Stands) (ts us : List Triple) → s ≡ stands.Waits slot → IsPermutation (triple slot n rule ∷ ts) us →
+    count_by p us ≡ count_by p (due_of n rule s) + count_by p ts
 waited p slot n rule s ts us e same =
     let f : Triple → ℕ = λ t. cond (p t) 1 0 in
     omega (arith, sum_by-IsPermutation f (triple slot n rule ∷ ts) us same, sum_by-cons f (triple slot n rule) ts, sum_by-cons f (triple slot n rule) [], ap (λ z. count_by p (due_of n rule z)) e)

@@ -88,10 +88,10 @@ module _ (names more : List Ref) (grows : Grows names more) where
   named_before slot r live here = let (q, e) = name_at names slot live in e ∙ sym (slot-grown names more slot q grows e) ∙ here
 
   -- what is kept stays so where names come
-  pub kept_named : (g : Grammar) (hs : List Held) (k : Map) (late : List Ref) (ns : List ℕ) (xs : List Record) (ts : List Triple) →
-      AreKept g hs k names late ns xs ts → AreKept g hs k more late ns xs ts
+  pub kept_named : (g : Grammar) (hs : List Held) (k : Map) (late : List Ref) (ns : List ℕ) (xs : List Record) (ts : List Triple) → AreKept g hs k names late ns xs ts →
+      AreKept g hs k more late ns xs ts
   kept_named g hs k late ns xs ts f = record {
-    fits = record { apart = f.fits.apart; known = f.fits.known; fit = λ i n x e u. fit_grows g x (f.fits.fit i n x e u); waiting = f.fits.waiting };
+    fits = record { counted = f.fits.counted; apart = f.fits.apart; known = f.fits.known; fit = λ i n x e u. fit_grows g x (f.fits.fit i n x e u); waiting = f.fits.waiting };
     beside = f.beside;
     of_node = λ i n h x e u v. of_grows g h x (f.of_node i n h x e u v);
     told = λ i n h x e u v j m w not rule d. refusal_stays h.node rule (guard_all k 1 rule.patterns h.inherited) m.stands (f.told i n h x e u v j m w (not_before late m.stands not) rule d);
@@ -113,8 +113,8 @@ module _ (k l : Map) (names late later : List Ref) (more : IsSubmap k l) (covers
       by (Some r) f = (covers r f).0
 
   -- a rule that waits for none of the late references stands as it stood
-  told_stays : (n : Node) (rs : List Ref) (rule : Rule) (s : Stands) → waits_for_one names later s ≡ false → kept_refusal names s ≡ told_refusal k n
-      rs rule → told_refusal l n rs rule ≡ told_refusal k n rs rule
+  told_stays : (n : Node) (rs : List Ref) (rule : Rule) (s : Stands) → waits_for_one names later s ≡ false → kept_refusal names s ≡ told_refusal k n rs rule →
+      told_refusal l n rs rule ≡ told_refusal k n rs rule
   told_stays n rs rule s not told = ap (λ m. refusal_of (after_guard n rule (as_named m))) (guard_all-keeps k l more 1 rule.patterns rs (final (guard_all k 1 rule.patterns rs) refl))
     where
       waits : (s : Stands) (r : Ref) → waits_for_one names later s ≡ false → kept_refusal names s ≡ Some (WaitsFor (Some r)) → is_named later r ≡ false

@@ -52,8 +52,8 @@ module _ (k : Map) (s : Ref) where
       by (inl a) = f (under_waits i m a)
       by (inr b) = g b
 
-  end_waits : (c : Chased) (go : List Ref → Matched Ref Ref) (h : Head) (n : ℕ) (r : Ref) → chase k r ≡ c →
-      ((rs : List Ref) → go rs ≡ Waits s → find k s ≡ None) → guard_end c go h n r ≡ Waits s → find k s ≡ None
+  end_waits : (c : Chased) (go : List Ref → Matched Ref Ref) (h : Head) (n : ℕ) (r : Ref) → chase k r ≡ c → ((rs : List Ref) → go rs ≡ Waits s → find k s ≡ None) →
+      guard_end c go h n r ≡ Waits s → find k s ≡ None
   end_waits (Missing q) go h n r f on e = let same : q ≡ s = cc in missing_in (length k) r (f ∙ ap Missing same)
   end_waits Round go h n r f on e = absurd cc
   end_waits (Found h' rs) go h n r f on e = by (head_eq h h' && nat_eq n (length rs)) e

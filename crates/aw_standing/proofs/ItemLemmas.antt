@@ -38,8 +38,8 @@ use Rattle.aw_standing.specs.Items.{said_refusal, kept_item, SayOf, StandsAt, wa
 use Rattle.aw_standing.proofs.Rising.{rule_among, mark_behind}
 
 -- a refusal that is kept is said by the references of its slots
-pub said : (names : List Ref) (n : Node) (rule : Rule) (s : Stands) (m : Matched Ref Ref) → kept_refusal names s ≡ refusal_of
-    (after_guard n rule (as_named m)) → said_refusal names s ≡ refusal_of (after_guard n rule m)
+pub said : (names : List Ref) (n : Node) (rule : Rule) (s : Stands) (m : Matched Ref Ref) → kept_refusal names s ≡ refusal_of (after_guard n rule (as_named m)) →
+    said_refusal names s ≡ refusal_of (after_guard n rule m)
 said names n rule s (Yes xs) e = by s (deep n rule) e
   where
     by : (s : Stands) (b : Bool) → kept_refusal names s ≡ refusal_of (cond b (Refused TooDeep) (Takes rule (map Some xs))) →
@@ -80,8 +80,8 @@ module _ (g : Grammar) (k : Map) (names : List Ref) (h : Held) where
       next : (m : ℕ) → slice_get rules m ≡ slice_get g.rules (m + suc i)
       next m = at (suc m) ∙ ap (slice_get g.rules) (omega arith)
 
-      by : ((zs : List Mark) → map mark_rule zs ≡ rules_of (sort_or (sort_of g h.node)) (suc i) rules →
-          ((j : ℕ) (m : Mark) → slice_get zs j ≡ Some m → IsTold g k names h m) → map (kept_item names h.node) zs ≡ site_items k (held_of g h) (suc i) rules) →
+      by : ((zs : List Mark) → map mark_rule zs ≡ rules_of (sort_or (sort_of g h.node)) (suc i) rules → ((j : ℕ) (m : Mark) → slice_get zs j ≡ Some m → IsTold g k names h m) →
+          map (kept_item names h.node) zs ≡ site_items k (held_of g h) (suc i) rules) →
           (b : Bool) (ms : List Mark) → map mark_rule ms ≡ cond b (i ∷ rules_of (sort_or (sort_of g h.node)) (suc i) rules) (rules_of (sort_or (sort_of g h.node)) (suc i) rules) →
           ((j : ℕ) (m : Mark) → slice_get ms j ≡ Some m → IsTold g k names h m) →
           map (kept_item names h.node) ms ≡ cond b (site_item k (held_of g h) i rule ∷ site_items k (held_of g h) (suc i) rules) (site_items k (held_of g h) (suc i) rules)
@@ -126,8 +126,8 @@ pub items_at : (g : Grammar) (k : Map) (names : List Ref) (hs : List Held) (ns :
 items_at g k names hs ns xs ts at n h x f e u v = items_kept g k names h x (f.of_node at n h x e u v) (λ j m w. f.told at n h x e u v j m w (none_late names m.stands))
 
 -- what the mark of a rule says is how the rule stands at the node at a place
-pub stands_said : (g : Grammar) (k : Map) (names : List Ref) (hs : List Held) (ns : List ℕ) (xs : List Record) (ts : List Triple) (at n : ℕ)
-    (h : Held) (x : Record) (number : ℕ) (s : Standing) → AreKept g hs k names [] ns xs ts →
+pub stands_said : (g : Grammar) (k : Map) (names : List Ref) (hs : List Held) (ns : List ℕ) (xs : List Record) (ts : List Triple) (at n : ℕ) (h : Held) (x : Record) (number : ℕ)
+    (s : Standing) → AreKept g hs k names [] ns xs ts →
     slice_get ns at ≡ Some n → slice_get hs at ≡ Some h → slice_get xs n ≡ Some x → SayOf names x.marks.items number s → StandsAt g k h number s
 stands_said g k names hs ns xs ts at n h x number s f e u v says rule here sort idle =
     let o = f.of_node at n h x e u v in
@@ -211,9 +211,8 @@ module _ (names : List Ref) (once : IsNamedOnce names) (slot : ℕ) (r : Ref) (n
       f.fits.waiting (λ t. nat_eq t.slot slot)
       ∙ all_wait g k xs ns hs f.beside (λ i n h e u. shows i n h e u (slice_get_cases xs n))
     where
-      shows : (i n : ℕ) (h : Held) → slice_get ns i ≡ Some n → slice_get hs i ≡ Some h → (slice_get xs n ≡ slice_get xs n)
-          × (((x : Record) × (n < length xs) × (slice_get xs n ≡ Some x) × (get_or xs n x ≡ x))
-          ⊎ ((length xs ≤ n) × (slice_get xs n ≡ None))) → ShowsItems g k xs n h
+      shows : (i n : ℕ) (h : Held) → slice_get ns i ≡ Some n → slice_get hs i ≡ Some h →
+          (slice_get xs n ≡ slice_get xs n) × (((x : Record) × (n < length xs) × (slice_get xs n ≡ Some x) × (get_or xs n x ≡ x)) ⊎ ((length xs ≤ n) × (slice_get xs n ≡ None))) → ShowsItems g k xs n h
       shows i n h e u (_, inl (x, _, v, _)) = (x, v, (f.fits.fit i n x e v).stand, items_kept g k names h x (f.of_node i n h x e u v) (λ j m w. f.told i n h x e u v j m w (none_late names m.stands)))
       shows i n h e u (_, inr (past, none)) = absurd (omega (arith, past, f.fits.known i n e))
 

@@ -113,6 +113,7 @@ module _ (g : Grammar) (k : Map) (names : List Ref) (slot n rule : ℕ) (s : Sta
 
   pub fits_again : AreFit g names ns xs (triple slot n rule ∷ ts) → AreFit g names ns ys us
   fits_again f = record {
+    counted = omega (arith, f.counted, set.length);
     apart = f.apart;
     known = λ q m e. omega (arith, f.known q m e, set.length);
     fit = λ q m z e w. fit_by q m z e (written xs ys n y set m z w);
@@ -123,8 +124,8 @@ module _ (g : Grammar) (k : Map) (names : List Ref) (slot n rule : ℕ) (s : Sta
       fit_by q m z e (inl (same, b)) = subst (IsFit g names) (sym b) (fit_again (f.fit i n x at here))
       fit_by q m z e (inr (other, w)) = f.fit q m z e w
 
-  pub kept_again : (hs : List Held) (late : List Ref) → ((h : Held) → IsOf g names h x → WaitsAtEnd g k names h (waiting_mark rule slot) →
-      IsTold g k names h (with_stands (waiting_mark rule slot) s)) →
+  pub kept_again : (hs : List Held) (late : List Ref) →
+      ((h : Held) → IsOf g names h x → WaitsAtEnd g k names h (waiting_mark rule slot) → IsTold g k names h (with_stands (waiting_mark rule slot) s)) →
       AreKept g hs k names late ns xs (triple slot n rule ∷ ts) → AreKept g hs k names late ns ys us
   kept_again hs late says f = record {
     fits = fits_again f.fits;
@@ -161,8 +162,8 @@ module _ (g : Grammar) (k : Map) (names : List Ref) (slot n rule : ℕ) (s : Sta
           told_mark a v not (inl (c, d)) = subst (IsTold g k names h) (sym d) (says_now q m h same e u)
           told_mark a v not (inr (_, w)) = f.told q n h x (e ∙ ap Some same) u here a v w not
 
-      ends_by : (q m a : ℕ) (h : Held) (z : Record) (v : Mark) → slice_get ns q ≡ Some m → slice_get hs q ≡ Some h → WasWritten n y xs m z →
-          slice_get z.marks.items a ≡ Some v → WaitsAtEnd g k names h v
+      ends_by : (q m a : ℕ) (h : Held) (z : Record) (v : Mark) → slice_get ns q ≡ Some m → slice_get hs q ≡ Some h → WasWritten n y xs m z → slice_get z.marks.items a ≡ Some v →
+          WaitsAtEnd g k names h v
       ends_by q m a h z v e u (inr (other, w)) p = f.ends q m a h z v e u w p
       ends_by q m a h z v e u (inl (same, b)) p =
           ends_mark (get-stand_at s j x.marks.items _ a v mark (ap (λ l. slice_get l a) (sym stood.marks) ∙ ap (λ (r : Record). slice_get r.marks.items a) (sym b) ∙ p))
@@ -238,10 +239,10 @@ pub fits_same : (g : Grammar) (names : List Ref) (ns ms : List ℕ) (xs ys : Lis
     ((p : Triple → Bool) → count_by p us ≡ count_by p ts) → AreFit g names ns xs ts → AreFit g names ms ys us
 fits_same g names ns ms xs ys ts us e d same f =
     subst (λ z. AreFit g names z ys us) (sym e) (subst (λ z. AreFit g names ns z us) (sym d)
-    (record { apart = f.apart; known = f.known; fit = f.fit; waiting = λ p. same p ∙ f.waiting p }))
+    (record { counted = f.counted; apart = f.apart; known = f.known; fit = f.fit; waiting = λ p. same p ∙ f.waiting p }))
 
-pub kept_same : (g : Grammar) (hs : List Held) (k : Map) (names late : List Ref) (ns ms : List ℕ) (xs ys : List Record) (ts us : List Triple) →
-    ms ≡ ns → ys ≡ xs → ((p : Triple → Bool) → count_by p us ≡ count_by p ts) →
+pub kept_same : (g : Grammar) (hs : List Held) (k : Map) (names late : List Ref) (ns ms : List ℕ) (xs ys : List Record) (ts us : List Triple) → ms ≡ ns → ys ≡ xs →
+    ((p : Triple → Bool) → count_by p us ≡ count_by p ts) →
     AreKept g hs k names late ns xs ts → AreKept g hs k names late ms ys us
 kept_same g hs k names late ns ms xs ys ts us e d same f =
     subst (λ z. AreKept g hs k names late z ys us) (sym e) (subst (λ z. AreKept g hs k names late ns z us) (sym d)

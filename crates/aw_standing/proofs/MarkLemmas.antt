@@ -96,8 +96,8 @@ pub rule_past : (s n : ℕ) (rules : List Rule) (ms : List ℕ) → slice_get ru
 rule_past s n rules ms past = rw (add-one n, (none_here rules n past).0, (none_here rules n past).1) refl
 
 -- the rule that was found
-pub found_rule : (rules : List GrammarRule) (number : ℕ) (found : Option (Bor GrammarRule)) (rule : Bor GrammarRule) → option_copied found ≡ slice_get
-    rules number → found ≡ Some rule → slice_get rules number ≡ Some rule.now
+pub found_rule : (rules : List GrammarRule) (number : ℕ) (found : Option (Bor GrammarRule)) (rule : Bor GrammarRule) → option_copied found ≡ slice_get rules number →
+    found ≡ Some rule → slice_get rules number ≡ Some rule.now
 found_rule rules number found rule e f = sym e ∙ ap option_copied f
 
 pub no_rule : (rules : List GrammarRule) (number : ℕ) (found : Option (Bor GrammarRule)) → option_copied found ≡ slice_get rules number → found ≡ None → slice_get rules number ≡ None

@@ -35,8 +35,9 @@ module _ (g : Grammar) (k : Map) (names : List Ref) (at : ℕ) (ns : List ℕ) (
   new_is : (m : ℕ) (z : Record) → m ≡ length xs → slice_get (xs ++ y ∷ []) m ≡ Some z → z ≡ y
   new_is m z s e = let a : slice_get (xs ++ y ∷ []) (length xs) ≡ Some z = ap (slice_get (xs ++ y ∷ [])) (sym s) ∙ e in let b = get-last xs y in cc
 
-  pub fits_opened : AreFit g names ns xs ts → AreFit g names (insert ns at (length xs)) (xs ++ y ∷ []) us
-  fits_opened f = record {
+  pub fits_opened : at ≤ length ns → AreFit g names ns xs ts → AreFit g names (insert ns at (length xs)) (xs ++ y ∷ []) us
+  fits_opened within f = record {
+    counted = omega (arith, f.counted, length-append xs (y ∷ []), length-insert ns at (length xs) within);
     apart = apart_inserted ns at (length xs) f.apart (λ j e. absurd (omega (arith, f.known j (length xs) e)));
     known = λ i m e. known_by m (inserted_one ns at (length xs) i m e);
     fit = λ i m z e w. fit_by m z w (inserted_one ns at (length xs) i m e);
@@ -70,7 +71,7 @@ module _ (g : Grammar) (k : Map) (names : List Ref) (at : ℕ) (ns : List ℕ) (
   pub kept_opened : (hs : List Held) (late : List Ref) (h : Held) → at ≤ length ns → IsOf g names h x → AreKept g hs k names late ns xs ts →
       AreKept g (insert hs at h) k names late (insert ns at (length xs)) (xs ++ y ∷ []) us
   kept_opened hs late h within o f = record {
-    fits = fits_opened f.fits;
+    fits = fits_opened within f.fits;
     beside = omega (arith, length-insert ns at (length xs) within, length-insert hs at h (omega (arith, within, f.beside)), f.beside);
     of_node = λ i m q z e u w. of_by m q z w (inserted_both ns hs at (length xs) h i m q f.beside e u);
     told = λ i m q z e u w. told_by m q z w (inserted_both ns hs at (length xs) h i m q f.beside e u);
@@ -94,20 +95,22 @@ module _ (g : Grammar) (k : Map) (names : List Ref) (at : ℕ) (ns : List ℕ) (
       ends_by m j q z v w a (inr (i, e, u)) = f.ends i m j q z v e u (before m z (f.fits.known i m e) w) a
 
 -- the same by the values that the program has
-module _ (g : Grammar) (k : Map) (names : List Ref) (at n : ℕ) (ns ms : List ℕ) (xs ys : List Record) (ts us : List Triple) (x y : Record)
-    (last : n ≡ length xs) (numbers : ms ≡ insert ns at n) (records : ys ≡ xs ++ y ∷ []) (test : AreTested g k names n x y ts us) (fit : IsFit g names y) where
+module _ (g : Grammar) (k : Map) (names : List Ref) (at n : ℕ) (ns : List ℕ) (xs ys : List Record) (ts us : List Triple) (x y : Record)
+    (last : n ≡ length xs) (records : ys ≡ xs ++ y ∷ []) (test : AreTested g k names n x y ts us) (fit : IsFit g names y) (within : at ≤ length ns) where
   test_last : AreTested g k names (length xs) x y ts us
   test_last = subst (λ z. AreTested g k names z x y ts us) last test
 
-  pub fits_open : AreFit g names ns xs ts → AreFit g names ms ys us
+  pub fits_open : AreFit g names ns xs ts → AreFit g names (insert ns at (length ns)) ys us
   fits_open f =
-      subst (λ z. AreFit g names z ys us) (sym (numbers ∙ ap (insert ns at) last))
-      (subst (λ z. AreFit g names (insert ns at (length xs)) z us) (sym records) (fits_opened g k names at ns xs ts us x y test_last fit f))
+      subst (λ z. AreFit g names (insert ns at z) ys us) f.counted
+      (subst (λ z. AreFit g names (insert ns at (length xs)) z us) (sym records) (fits_opened g k names at ns xs ts us x y test_last fit within f))
 
-  pub kept_open : (hs : List Held) (late : List Ref) (h : Held) → at ≤ length ns → IsOf g names h x → AreKept g hs k names late ns xs ts → AreKept g (insert hs at h) k names late ms ys us
-  kept_open hs late h within o f =
-      subst (λ z. AreKept g (insert hs at h) k names late z ys us) (sym (numbers ∙ ap (insert ns at) last))
-      (subst (λ z. AreKept g (insert hs at h) k names late (insert ns at (length xs)) z us) (sym records) (kept_opened g k names at ns xs ts us x y test_last fit hs late h within o f))
+  pub kept_open : (hs : List Held) (late : List Ref) (h : Held) → IsOf g names h x → AreKept g hs k names late ns xs ts →
+      AreKept g (insert hs at h) k names late (insert ns at (length ns)) ys us
+  kept_open hs late h o f =
+      subst (λ z. AreKept g (insert hs at h) k names late (insert ns at z) ys us) f.fits.counted
+      (subst (λ z. AreKept g (insert hs at h) k names late (insert ns at (length xs)) z us) (sym records)
+      (kept_opened g k names at ns xs ts us x y test_last fit hs late h within o f))
 
 -- a node in a list in which one was developed
 abbrev pub WasDone : Choice → ℕ → List Held → ℕ → Held → Type 0
@@ -146,6 +149,7 @@ module _ (g : Grammar) (names : List Ref) (at n : ℕ) (ns : List ℕ) (xs ys : 
 
   pub fits_closed : AreFit g names ns xs ts → AreFit g names ns ys (others_than n ts)
   fits_closed f = record {
+    counted = omega (arith, f.counted, set.length);
     apart = f.apart;
     known = λ i m e. omega (arith, f.known i m e, set.length);
     fit = λ i m z e w. fit_by i m z e (written xs ys n y set m z w);
@@ -180,8 +184,8 @@ module _ (g : Grammar) (names : List Ref) (at n : ℕ) (ns : List ℕ) (xs ys : 
       of_by i m h z e (inr (d, u)) (inl (s, t)) = absurd (d (place_here i m e s))
       of_by i m h z e (inl (s, _, _, _)) (inr (d, w)) = absurd (d (number_here i m e s))
       of_by i m h z e (inr (_, u)) (inr (_, w)) = f.of_node i m h z e u w
-      of_by i m h z e (inl (_, was, u, done)) (inl (s, t)) = subst (λ v. IsOf g names v z) (sym done)
-          (subst (IsOf g names (record was { done = Some c })) (sym t) (of_done (f.of_node i n was x (e ∙ ap Some s) u old)))
+      of_by i m h z e (inl (_, was, u, done)) (inl (s, t)) =
+          subst (λ v. IsOf g names v z) (sym done) (subst (IsOf g names (record was { done = Some c })) (sym t) (of_done (f.of_node i n was x (e ∙ ap Some s) u old)))
         where
           of_done : IsOf g names was x → IsOf g names (record was { done = Some c }) y
           of_done o = record {

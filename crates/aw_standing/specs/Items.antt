@@ -31,7 +31,8 @@ kept_item names n m = record { node = n; rule = m.rule; refusal = said_refusal n
 
 -- where these marks are in the order of their rules, the one of this rule says that it stands so
 abbrev pub SayOf : List Ref → List Mark → ℕ → Standing → Type 0
-SayOf names ms number s = AreRising (map mark_rule ms) → (j : ℕ) (m : Mark) → slice_get ms j ≡ Some m → m.rule ≡ number → refusal_of s ≡ said_refusal names m.stands
+SayOf names ms number s =
+    AreRising (map mark_rule ms) → (j : ℕ) (m : Mark) → slice_get ms j ≡ Some m → m.rule ≡ number → refusal_of s ≡ said_refusal names m.stands
 
 -- the rule stands so at a node that inherits these references
 abbrev pub RuleStands : Map → Node → List Ref → Rule → Standing → Type 0
@@ -39,7 +40,8 @@ RuleStands k n rs rule s = refusal_of s ≡ plain_refusal (after_guard n rule (g
 
 -- the rule with this number stands so at the node, where the node is open and of the rule's sort
 abbrev pub StandsAt : Grammar → Map → Held → ℕ → Standing → Type 0
-StandsAt g k h number s = (rule : Rule) → slice_get g.rules number ≡ Some rule → rule.sort ≡ sort_or (sort_of g h.node) → h.done ≡ None → RuleStands k h.node h.inherited rule s
+StandsAt g k h number s =
+    (rule : Rule) → slice_get g.rules number ≡ Some rule → rule.sort ≡ sort_or (sort_of g h.node) → h.done ≡ None → RuleStands k h.node h.inherited rule s
 
 -- the refusal is that this reference is missing
 abbrev pub waits_on : Ref → Option (Answer Ref) → Bool

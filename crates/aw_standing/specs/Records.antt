@@ -83,8 +83,8 @@ AreTold g k names late h ms = (j : ℕ) (m : Mark) → slice_get ms j ≡ Some m
 
 -- a rule whose mark waits for a reference waits for the one to which a chase leads from there, where that one has no equation
 abbrev pub WaitsAtEnd : Grammar → Map → List Ref → Held → Mark → Type 0
-WaitsAtEnd g k names h m = (rule : Rule) (slot : ℕ) (r end : Ref) → slice_get g.rules m.rule ≡ Some rule → m.stands ≡ stands.Waits slot → slice_get names slot ≡ Some r → chase k r ≡ Missing end →
-    told_refusal k h.node h.inherited rule ≡ Some (WaitsFor (Some end))
+WaitsAtEnd g k names h m = (rule : Rule) (slot : ℕ) (r end : Ref) → slice_get g.rules m.rule ≡ Some rule → m.stands ≡ stands.Waits slot →
+    slice_get names slot ≡ Some r → chase k r ≡ Missing end → told_refusal k h.node h.inherited rule ≡ Some (WaitsFor (Some end))
 
 -- the mark at a place stands so now
 abbrev pub stand_at : Stands → ℕ → List Mark → List Mark

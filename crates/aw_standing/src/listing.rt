@@ -1,8 +1,9 @@
 //! The items of a worklist, and how a rule stands that is asked for, from what is kept.
-ghost use Rattle.std.specs.Prelude.{◌≡◌, ◌<◌, ◌++◌, List, Some, true, IfOk, OnOk, length, map as list_map, slice_get};
+ghost use Rattle.std.specs.Prelude.{◌≡◌, ◌++◌, List, true, IfOk, OnOk, length, map as list_map};
 ghost use Rattle.aw_term.specs.Names.{Ref as RefName};
 ghost use Rattle.aw_term.specs.Rules.{Grammar as PlainGrammar};
 ghost use Rattle.aw_choice.specs.ChoiceView.{item_of, refusal_of};
+ghost use Rattle.aw_node_list.specs.Row.{Row};
 ghost use Rattle.aw_node_list.specs.declared.held.Held.{Held as HeldValue};
 ghost use Rattle.aw_node_list.specs.HeldView.{held_of, state_of};
 ghost use Rattle.aw_store.specs.Equations.{Map};
@@ -10,7 +11,7 @@ ghost use Rattle.aw_store.specs.NamedRefs.{AreNamed};
 ghost use Rattle.aw_law_sites.specs.Worklists.{open_items};
 ghost use Rattle.aw_standing.specs.Records.{AreLive, has_live};
 ghost use Rattle.aw_standing.specs.Items.{said_refusal, kept_item, SayOf, StandsAt};
-ghost use Rattle.aw_standing.specs.KeptStates.{AreLiveAt, IsKept};
+ghost use Rattle.aw_standing.specs.KeptStates.{AreLiveAt, IsKept, IsNumbered};
 
 use crate::kept::Kept;
 use crate::record::{Mark, Stands, rule_place};
@@ -73,52 +74,50 @@ fn push_marks<F: Facts>(
 }
 
 impl Kept {
-    /// The slots of the references that the node at this place inherits, in their order.
-    pub fn slots(&self, at: usize) -> &[usize]
-        requires { at < length self.now.numbers.items }
-        ensures { (g : PlainGrammar) (hs : List HeldValue) (h : HeldValue) (k : Map) (names : List RefName) → slice_get hs at ≡ Some h → IsKept g hs k names self.now →
+    /// The slots of the references that the node with this number inherits, in their order.
+    pub fn slots(&self, number: u32) -> &[usize]
+        ensures { (g : PlainGrammar) (row : Row) (h : HeldValue) (k : Map) (names : List RefName) → IsNumbered row number h → IsKept g row k names self.now →
             AreNamed names result.now h.inherited }
     {
-        match self.records.get(self.numbers.at(at) as usize) {
+        match self.records.get(number as usize) {
             Some(record) => record.slots.as_slice(),
             None => &[],
         }
     }
 
-    /// How the rule with this number stands at the node at this place, where that is open and of the rule's sort. Nothing is
-    /// tested. Want of memory is the only error.
+    /// How a rule stands at the node with this number, where that is open and of the rule's sort. Nothing is tested. Want of
+    /// memory is the only error.
     pub fn standing<F: Facts>(
         &self,
-        at: usize,
-        number: u16,
+        number: u32,
+        rule: u16,
         facts: &F,
     ) -> Result<Standing, AllocError>
-        requires within { at < length self.now.numbers.items }
-        requires live { AreLiveAt (F.names facts.now) at self.now }
-        ensures { IfOk result (λ s. (g : PlainGrammar) (hs : List HeldValue) (h : HeldValue) → slice_get hs at ≡ Some h → IsKept g hs (F.map facts.now) (F.names facts.now) self.now →
-            StandsAt g (F.map facts.now) h number s) }
+        requires { AreLiveAt (F.names facts.now) number self.now }
+        ensures { IfOk result (λ s. (g : PlainGrammar) (row : Row) (h : HeldValue) → IsNumbered row number h →
+            IsKept g row (F.map facts.now) (F.names facts.now) self.now → StandsAt g (F.map facts.now) h rule s) }
     {
-        match self.records.get(self.numbers.at(at) as usize) {
-            Some(record) => standing_in(facts, record.marks.as_slice(), number),
+        match self.records.get(number as usize) {
+            Some(record) => standing_in(facts, record.marks.as_slice(), rule),
             None => Ok(Standing::Ready),
         }
     }
 
-    /// Adds the items of the node at this place: one for each rule of its sort where the node is open. Nothing is tested. Want
+    /// Adds the items of the node with this number: one for each rule of its sort where the node is open. Nothing is tested. Want
     /// of memory is the only error.
     pub fn push_items<F: Facts>(
         &self,
-        at: usize,
+        number: u32,
         node: &Node,
         facts: &F,
         items: &mut Vec<Item>,
     ) -> Result<(), AllocError>
-        requires within { at < length self.now.numbers.items }
-        requires live { AreLiveAt (F.names facts.now) at self.now }
-        ensures { OnOk result ((g : PlainGrammar) (hs : List HeldValue) (h : HeldValue) → slice_get hs at ≡ Some h → h.node ≡ node.now → IsKept g hs (F.map facts.now) (F.names facts.now) self.now →
+        requires { AreLiveAt (F.names facts.now) number self.now }
+        ensures { OnOk result ((g : PlainGrammar) (row : Row) (h : HeldValue) → IsNumbered row number h → h.node ≡ node.now →
+            IsKept g row (F.map facts.now) (F.names facts.now) self.now →
             list_map item_of items.new.items ≡ list_map item_of items.old.items ++ open_items g (state_of h.done) (F.map facts.now) (held_of g h)) }
     {
-        match self.records.get(self.numbers.at(at) as usize) {
+        match self.records.get(number as usize) {
             Some(record) => push_marks(items, facts, node, record.marks.as_slice()),
             None => Ok(()),
         }

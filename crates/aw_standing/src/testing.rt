@@ -57,7 +57,8 @@ fn test_stands<F: Facts, L: Ledger>(
     requires few { length rule.now.patterns ≤ 8 }
     requires shallow { all_nesting (join (list_map pattern_of rule.now.patterns)) ≤ 32 }
     requires room { length (all_leaves (join (list_map pattern_of rule.now.patterns))) ≤ 64 }
-    ensures stands { (sorts : List SortValue) (n : NodeValue) (rs : List RefName) → deep ≡ nat_eq (length n.steps) most_steps → AreNamed (F.names facts.now) slots.now rs →
+    ensures stands { (sorts : List SortValue) (n : NodeValue) (rs : List RefName) → deep ≡ nat_eq (length n.steps) most_steps →
+        AreNamed (F.names facts.now) slots.now rs →
         kept_refusal (F.names facts.now) result ≡ told_refusal (F.map facts.now) n rs (rule_of sorts rule.now) }
     ensures lacks { LacksBody (F.map facts.now) (F.names facts.now) result }
     ensures live { has_live (length (F.names facts.now)) result ≡ true }
@@ -78,7 +79,8 @@ fn test_at<F: Facts, L: Ledger>(
 ) -> Stands
     requires within { at < length entry.now.marks.items }
     requires fit { IsFit (grammar_of grammar.now) (F.names facts.now) entry.now }
-    ensures told { (h : HeldValue) (m : MarkValue) → IsOf (grammar_of grammar.now) (F.names facts.now) h entry.now → slice_get entry.now.marks.items at ≡ Some m →
+    ensures told { (h : HeldValue) (m : MarkValue) → IsOf (grammar_of grammar.now) (F.names facts.now) h entry.now →
+        slice_get entry.now.marks.items at ≡ Some m →
         IsTold (grammar_of grammar.now) (F.map facts.now) (F.names facts.now) h (with_stands m result) }
     ensures lacks { LacksBody (F.map facts.now) (F.names facts.now) result }
     ensures live { has_live (length (F.names facts.now)) result ≡ true }
@@ -111,7 +113,8 @@ pub fn look_again<F: Facts, L: Ledger>(
     requires within { at < length entry.now.marks.items }
     requires fit { IsFit (grammar_of grammar.now) (F.names facts.now) entry.now }
     requires live { slot < length (F.names facts.now) }
-    ensures told { (h : HeldValue) (rule : ℕ) → slice_get entry.now.marks.items at ≡ Some (waiting_mark rule slot) → IsOf (grammar_of grammar.now) (F.names facts.now) h entry.now →
+    ensures told { (h : HeldValue) (rule : ℕ) → slice_get entry.now.marks.items at ≡ Some (waiting_mark rule slot) →
+        IsOf (grammar_of grammar.now) (F.names facts.now) h entry.now →
         WaitsAtEnd (grammar_of grammar.now) (F.map facts.now) (F.names facts.now) h (waiting_mark rule slot) →
         IsTold (grammar_of grammar.now) (F.map facts.now) (F.names facts.now) h (with_stands (waiting_mark rule slot) result) }
     ensures lacks { LacksBody (F.map facts.now) (F.names facts.now) result }
@@ -133,7 +136,8 @@ pub fn look_again<F: Facts, L: Ledger>(
 pub fn set_mark(entry: &mut Record, at: usize, number: usize, stands: Stands, work: &mut Work)
     requires within { at < length entry.old.marks.items }
     requires room { 0 < work.old.spare }
-    ensures set { (m : MarkValue) → slice_get entry.old.marks.items at ≡ Some m → IsSet number at m stands entry.old entry.new work.old.waiting work.new.waiting }
+    ensures set { (m : MarkValue) → slice_get entry.old.marks.items at ≡ Some m →
+        IsSet number at m stands entry.old entry.new work.old.waiting work.new.waiting }
     ensures spare { work.old.spare ≤ work.new.spare + 1 }
 {
     let mark = &mut entry.marks[at];

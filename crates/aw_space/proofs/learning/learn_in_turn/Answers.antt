@@ -55,9 +55,9 @@ loop-e-preserved g c =
           (and_parts (is_named names e.left) (all_named names (lefts_of es)) (subst (λ l. all_named names (lefts_of l) ≡ true) lists c.loop-e.invariant.named)).1;
       names = grows_more _ _ _ c.loop-e.invariant.names c.learn_sure.ensures.names;
       fits = c.learn_sure.ensures.fits;
-      kept = λ hs w. c.learn_sure.ensures.kept hs (c.loop-e.invariant.kept hs w);
-      steps = λ hs w.
-          let now = c.learn_sure.ensures.steps hs (c.loop-e.invariant.kept hs w) in
-          let before = c.loop-e.invariant.steps hs w in
-          omega (arith, now, before, ap (turns_cost gr (all_of gr hs) k) lists, ap (λ m. turns_cost gr (all_of gr hs) m es) c.learn_sure.ensures.map);
+      kept = λ row w. c.learn_sure.ensures.kept row (c.loop-e.invariant.kept row w);
+      steps = λ row w.
+          let now = c.learn_sure.ensures.steps row (c.loop-e.invariant.kept row w) in
+          let before = c.loop-e.invariant.steps row w in
+          omega (arith, now, before, ap (turns_cost gr (all_of gr row.items) k) lists, ap (λ m. turns_cost gr (all_of gr row.items) m es) c.learn_sure.ensures.map);
     }

@@ -1,7 +1,7 @@
 use Rattle.std.proofs.Common.{◌≡◌, ◌+◌, ◌≤◌, List, None, true, map, Contains}
 use Rattle.std.specs.Vec.Iter.{into_iter_items}
 use Rattle.aw_grammar.specs.GrammarOf.{grammar_of}
-use Rattle.aw_node_list.specs.declared.held.Held.{Held}
+use Rattle.aw_node_list.specs.Row.{Row}
 use Rattle.aw_node_list.specs.HeldView.{all_of}
 use Rattle.aw_store.specs.Equations.{Equation}
 use Rattle.aw_store.specs.EquationView.{equation_of}
@@ -21,9 +21,9 @@ invariant-loop-e g l = record {
   named : all_named (g.F.Facts.names l.facts) (lefts_of (map equation_of (into_iter_items l.e-iterator))) ≡ true;
   names : Grows (g.F.Facts.names l.fn.facts) (g.F.Facts.names l.facts);
   fits : IsFitKept (grammar_of l.grammar) (g.F.Facts.names l.facts) l.kept;
-  kept : (hs : List Held) → IsKept (grammar_of l.grammar) hs (g.F.Facts.map l.fn.facts) (g.F.Facts.names l.fn.facts) l.fn.kept →
-      IsKept (grammar_of l.grammar) hs (g.F.Facts.map l.facts) (g.F.Facts.names l.facts) l.kept;
-  steps : (hs : List Held) → IsKept (grammar_of l.grammar) hs (g.F.Facts.map l.fn.facts) (g.F.Facts.names l.fn.facts) l.fn.kept →
-      l.steps + turns_cost (grammar_of l.grammar) (all_of (grammar_of l.grammar) hs) (g.F.Facts.map l.facts) (map equation_of (into_iter_items l.e-iterator))
-      ≤ l.fn.steps + turns_cost (grammar_of l.grammar) (all_of (grammar_of l.grammar) hs) (g.F.Facts.map l.fn.facts) (map equation_of l.fn.es.items);
+  kept : (row : Row) → IsKept (grammar_of l.grammar) row (g.F.Facts.map l.fn.facts) (g.F.Facts.names l.fn.facts) l.fn.kept →
+      IsKept (grammar_of l.grammar) row (g.F.Facts.map l.facts) (g.F.Facts.names l.facts) l.kept;
+  steps : (row : Row) → IsKept (grammar_of l.grammar) row (g.F.Facts.map l.fn.facts) (g.F.Facts.names l.fn.facts) l.fn.kept →
+      l.steps + turns_cost (grammar_of l.grammar) (all_of (grammar_of l.grammar) row.items) (g.F.Facts.map l.facts) (map equation_of (into_iter_items l.e-iterator))
+      ≤ l.fn.steps + turns_cost (grammar_of l.grammar) (all_of (grammar_of l.grammar) row.items) (g.F.Facts.map l.fn.facts) (map equation_of l.fn.es.items);
 }

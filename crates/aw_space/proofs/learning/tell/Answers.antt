@@ -11,7 +11,7 @@ pub returns-in_err-told-clause-fits : goal.returns-in_err-told-clause-fits
 returns-in_err-told-clause-fits g c = fits_named (grammar_of c.args.grammar.now) _ _ c.args.kept.now c.add.ensures.names c.requires.fits
 
 pub returns-in_err-told-clause-kept : goal.returns-in_err-told-clause-kept
-returns-in_err-told-clause-kept g c hs w = grown_same (grammar_of c.args.grammar.now) hs _ _ _ _ c.args.kept.now c.in_err-told.ensures.err c.add.ensures.names w
+returns-in_err-told-clause-kept g c row w = grown_same (grammar_of c.args.grammar.now) row _ _ _ _ c.args.kept.now c.in_err-told.ensures.err c.add.ensures.names w
 
 pub learn-requires-clause-fits : goal.learn-requires-clause-fits
 learn-requires-clause-fits g c = fits_named (grammar_of c.args.grammar.now) _ _ c.args.kept.now c.add.ensures.names c.requires.fits
@@ -24,17 +24,17 @@ learn-requires-clause-learnt g c =
     left_there k l (g.F.Facts.names c.add.new.self) _ c.args.slot adds.0 adds.1 (slot-grown _ _ c.args.slot c.args.e.left c.add.ensures.names c.requires.slot)
 
 pub returns-in-New-clause-kept : goal.returns-in-New-clause-kept
-returns-in-New-clause-kept g c hs w =
+returns-in-New-clause-kept g c row w =
     let gr = grammar_of c.args.grammar.now in
     let k = g.F.Facts.map c.args.facts.now in
     let l = g.F.Facts.map c.add.new.self in
     let names = g.F.Facts.names c.add.new.self in
     let adds : Adds k c.args.e New l = subst (λ a. Adds k c.args.e a l) c.in-New.is c.in_ok-told.ensures.added in
-    c.learn.ensures.kept hs c.args.e.left [] (slot-grown _ names c.args.slot c.args.e.left c.add.ensures.names c.requires.slot)
-    (grown_by gr hs k l names _ c.args.kept.now adds.1 (named_more gr hs k _ names c.args.kept.now c.add.ensures.names w))
+    c.learn.ensures.kept row c.args.e.left [] (slot-grown _ names c.args.slot c.args.e.left c.add.ensures.names c.requires.slot)
+    (grown_by gr row k l names _ c.args.kept.now adds.1 (named_more gr row k _ names c.args.kept.now c.add.ensures.names w))
 
 pub returns-in-New-clause-steps : goal.returns-in-New-clause-steps
-returns-in-New-clause-steps g c hs w =
+returns-in-New-clause-steps g c row w =
     let gr = grammar_of c.args.grammar.now in
     let k = g.F.Facts.map c.args.facts.now in
     let names = g.F.Facts.names c.add.new.self in
@@ -43,13 +43,13 @@ returns-in-New-clause-steps g c hs w =
     omega (
       arith,
       c.learn.ensures.steps,
-      pairs_wait names (g.met.F.Facts.once c.add.new.self) c.args.slot c.args.e.left here gr k hs kept.numbers.items kept.records.items
-          kept.work.waiting (named_more gr hs k _ names kept c.add.ensures.names w),
+      pairs_wait names (g.met.F.Facts.once c.add.new.self) c.args.slot c.args.e.left here gr k row.items row.numbers kept.records.items kept.work.waiting
+          (named_more gr row k _ names kept c.add.ensures.names w),
     )
 
 pub returns-in_default-clause-fits : goal.returns-in_default-clause-fits
 returns-in_default-clause-fits g c = fits_named (grammar_of c.args.grammar.now) _ _ c.args.kept.now c.add.ensures.names c.requires.fits
 
 pub returns-in_default-clause-kept : goal.returns-in_default-clause-kept
-returns-in_default-clause-kept g c hs w =
-    grown_same (grammar_of c.args.grammar.now) hs _ _ _ _ c.args.kept.now (told_same _ _ c.args.e c.in_ok-told.told c.in_ok-told.ensures.added c.in_default.not-New) c.add.ensures.names w
+returns-in_default-clause-kept g c row w =
+    grown_same (grammar_of c.args.grammar.now) row _ _ _ _ c.args.kept.now (told_same _ _ c.args.e c.in_ok-told.told c.in_ok-told.ensures.added c.in_default.not-New) c.add.ensures.names w

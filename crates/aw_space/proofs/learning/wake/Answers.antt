@@ -9,7 +9,7 @@ pub learn-requires-clause-learnt : goal.learn-requires-clause-learnt
 learn-requires-clause-learnt g c = ap is_some (ap (option_and_then (find (g.F.Facts.map c.args.facts.now))) c.in-Some.ensures) ∙ c.requires.known
 
 pub returns-clause-kept : goal.returns-clause-kept
-returns-clause-kept g c hs late w = c.learn.ensures.kept hs c.args.left.now late c.in-Some.ensures w
+returns-clause-kept g c row late w = c.learn.ensures.kept row c.args.left.now late c.in-Some.ensures w
 
 pub returns-clause-steps : goal.returns-clause-steps
 returns-clause-steps g c most b =

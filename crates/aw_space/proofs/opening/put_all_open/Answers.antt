@@ -40,7 +40,7 @@ loop-new-preserved g c =
       stands = c.put_open.ensures.stands;
       place = omega (arith, c.loop-new.invariant.place, ap length lists, c.put_open.ensures.place);
       room = c.put_open.ensures.room (length rest) (all_tests rest)
-          (less_room c.loop-new.kept _ _ _ _ (subst (λ (os : List Opening). HasRoom c.loop-new.kept (length os) (all_tests os)) lists
-          c.loop-new.invariant.room) (omega arith) (omega (arith, sum_by-cons tests_of o rest)));
+          (less_room c.loop-new.kept _ _ _ _ (subst (λ (os : List Opening). HasRoom c.loop-new.kept (length os) (all_tests os)) lists c.loop-new.invariant.room) (omega arith)
+          (omega (arith, sum_by-cons tests_of o rest)));
       steps = omega (arith, c.loop-new.invariant.steps, ap all_tests lists, c.put_open.ensures.steps, sum_by-cons tests_of o rest);
     }

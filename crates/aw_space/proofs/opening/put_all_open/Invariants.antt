@@ -12,7 +12,7 @@ invariant-loop-new g l = record {
   lacks : LackEach (map held_in (into_iter_items l.new-iterator)) l.held.items;
   ordered : IsInOrder l.held.items;
   ready : All (IsReady (grammar_of l.grammar) (g.F.Facts.names l.facts)) (into_iter_items l.new-iterator);
-  stands : IsKept (grammar_of l.grammar) l.held.items (g.F.Facts.map l.facts) (g.F.Facts.names l.facts) l.kept;
+  stands : IsKept (grammar_of l.grammar) l.held (g.F.Facts.map l.facts) (g.F.Facts.names l.facts) l.kept;
   place : length (into_iter_items l.new-iterator) ≤ l.held.room;
   room : HasRoom l.kept (length (into_iter_items l.new-iterator)) (all_tests (into_iter_items l.new-iterator));
   steps : l.steps + all_tests (into_iter_items l.new-iterator) ≡ l.fn.steps + all_tests l.fn.more.items;

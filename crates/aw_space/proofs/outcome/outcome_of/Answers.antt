@@ -11,8 +11,8 @@ made-requires-clause-room c = λ r here. subst (λ w. HasRoom (length r.children
 
 pub returns-in-Refused-clause-outcome : goal.returns-in-Refused-clause-outcome
 returns-in-Refused-clause-outcome c =
-    λ x weighs. refused_foretold (grammar_of c.args.grammar.now) c.plainly.result c.args.node.now c.args.rule (map ground_of c.args.args.now)
-    c.args.weighed c.in-Refused.answer x c.requires.ok weighs c.in-Refused.is
+    λ x weighs. refused_foretold (grammar_of c.args.grammar.now) c.plainly.result c.args.node.now c.args.rule
+    (map ground_of c.args.args.now) c.args.weighed c.in-Refused.answer x c.requires.ok weighs c.in-Refused.is
     c.plainly.ensures.answer c.plainly.ensures.equations c.plainly.ensures.children
 
 pub returns-in_ok-made-in-Takes-clause-outcome : goal.returns-in_ok-made-in-Takes-clause-outcome

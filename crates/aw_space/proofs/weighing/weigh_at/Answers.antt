@@ -27,12 +27,12 @@ pub weigh_rule-requires-clause-few : goal.weigh_rule-requires-clause-few
 weigh_rule-requires-clause-few g c = patterns_few c.args.grammar.now c.args.number _ (found_rule c.args.grammar.now.rules c.args.number c.rule.result c.in-Some.rule c.rule.ensures.value c.in-Some.is)
 
 pub weigh_rule-requires-clause-shallow : goal.weigh_rule-requires-clause-shallow
-weigh_rule-requires-clause-shallow g c = patterns_shallow c.args.grammar.now c.args.number _ (found_rule c.args.grammar.now.rules c.args.number
-    c.rule.result c.in-Some.rule c.rule.ensures.value c.in-Some.is)
+weigh_rule-requires-clause-shallow g c =
+    patterns_shallow c.args.grammar.now c.args.number _ (found_rule c.args.grammar.now.rules c.args.number c.rule.result c.in-Some.rule c.rule.ensures.value c.in-Some.is)
 
 pub weigh_rule-requires-clause-room : goal.weigh_rule-requires-clause-room
-weigh_rule-requires-clause-room g c = patterns_room c.args.grammar.now c.args.number _ (found_rule c.args.grammar.now.rules c.args.number
-    c.rule.result c.in-Some.rule c.rule.ensures.value c.in-Some.is)
+weigh_rule-requires-clause-room g c = patterns_room c.args.grammar.now c.args.number _
+    (found_rule c.args.grammar.now.rules c.args.number c.rule.result c.in-Some.rule c.rule.ensures.value c.in-Some.is)
 
 pub returns-clause-value : goal.returns-clause-value
 returns-clause-value g c =
@@ -56,8 +56,8 @@ returns-clause-value g c =
 
 pub returns-then-is_some-clause-value : goal.returns-then-is_some-clause-value
 returns-then-is_some-clause-value g c =
-    weighs_done (grammar_of c.args.grammar.now) c.args.number (g.F.Facts.map c.args.facts.now) (map ground_of c.args.args.now) c.args.at.held.now
-    c.args.at.held.now.done refl (sym c.is_some.ensures ∙ c.if-is_some.true)
+    weighs_done (grammar_of c.args.grammar.now) c.args.number (g.F.Facts.map c.args.facts.now) (map ground_of c.args.args.now) c.args.at.held.now c.args.at.held.now.done refl
+    (sym c.is_some.ensures ∙ c.if-is_some.true)
 
 pub returns-clause-room : goal.returns-clause-room
 returns-clause-room g c =
@@ -76,8 +76,8 @@ returns-clause-untested g c =
     let idle = none_noted held.done (sym c.is_some.ensures ∙ c.if-is_some.false) in
     let sort = sort_here (grammar_of gr) held.node held.inherited c.requires.takes ∙ sym c.sort_at-sort.ensures in
     IfOk-weaker c.weigh_rule.result
-    (λ (w : Weighed). (sorts : List Sort) → (rule.sort ≡ c.sort_at-sort.result → RuleStands k held.node held.inherited (rule_of sorts rule)
-    c.args.at.stands) → IsRefused w → c.weigh_rule.new.steps ≡ c.args.steps.now)
+    (λ (w : Weighed). (sorts : List Sort) → (rule.sort ≡ c.sort_at-sort.result → RuleStands k held.node held.inherited (rule_of sorts rule) c.args.at.stands) → IsRefused w →
+    c.weigh_rule.new.steps ≡ c.args.steps.now)
     (λ (w : Weighed). IsRefused w → c.weigh_rule.new.steps ≡ c.args.steps.now)
     (λ w h. h gr.sorts (stands_there gr k held c.args.number rule c.sort_at-sort.result c.args.at.stands c.requires.stands here sort idle))
     c.weigh_rule.ensures.untested

@@ -8,8 +8,8 @@ use Rattle.aw_standing.proofs.testing.test_all.Goals as goal
 
 pub loop-at-init : goal.loop-at-init
 loop-at-init g c = record {
-  tested = tested_none (grammar_of c.args.grammar.now) (g.F.Facts.map c.args.facts.now) (g.F.Facts.names c.args.facts.now) c.args.number
-      c.args.entry.now c.args.work.now.waiting c.requires.fit c.requires.fresh;
+  tested = tested_none (grammar_of c.args.grammar.now) (g.F.Facts.map c.args.facts.now)
+      (g.F.Facts.names c.args.facts.now) c.args.number c.args.entry.now c.args.work.now.waiting c.requires.fit c.requires.fresh;
   spare = omega arith;
   steps = omega arith;
 }
@@ -40,6 +40,6 @@ loop-at-preserved g c =
 
 pub returns-clause-tested : goal.returns-clause-tested
 returns-clause-tested g c =
-    tested_all (grammar_of c.args.grammar.now) (g.F.Facts.map c.args.facts.now) (g.F.Facts.names c.args.facts.now) c.args.number c.args.entry.now
-    c.args.work.now.waiting c.loop-at.at c.loop-at.entry c.loop-at.work.waiting
+    tested_all (grammar_of c.args.grammar.now) (g.F.Facts.map c.args.facts.now)
+    (g.F.Facts.names c.args.facts.now) c.args.number c.args.entry.now c.args.work.now.waiting c.loop-at.at c.loop-at.entry c.loop-at.work.waiting
     (omega (arith, c.loop-at.invariant.tested.count, c.loop-at-test.false, c.args.entry.now.marks.ok, c.len-at-end.ensures)) c.loop-at.invariant.tested

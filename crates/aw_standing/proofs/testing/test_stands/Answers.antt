@@ -14,8 +14,8 @@ returns-clause-lacks g c =
     let names = g.F.Facts.names c.args.facts.now in
     let (rs, named) = named_some names c.args.slots.now c.requires.live in
     let bound = c.test_into-met.new.bound in
-    subst (LacksBody k names) (sym (c.stands_by.ensures bound)) (stands_lacks k names (map pattern_of c.args.rule.now.patterns) rs _
-    (guard_with bound c.test_into-met.result) (c.test_into-met.ensures.guard rs named))
+    subst (LacksBody k names) (sym (c.stands_by.ensures bound))
+    (stands_lacks k names (map pattern_of c.args.rule.now.patterns) rs _ (guard_with bound c.test_into-met.result) (c.test_into-met.ensures.guard rs named))
 
 pub returns-clause-live : goal.returns-clause-live
 returns-clause-live g c =

@@ -10,7 +10,6 @@ put_in-requires-clause-within c =
       arith,
       c.requires.lies.within,
       ap (λ (r : Chunked). length r.chunks) c.self.view_is,
-      length_starts a.starts.items a.list.items
-          c.self.invariant.begins,
+      length_starts a.starts.items a.list.items c.self.invariant.begins,
       ap length c.as_mut_slice-2.ensures.value,
     )

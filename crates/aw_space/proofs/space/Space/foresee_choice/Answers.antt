@@ -21,8 +21,8 @@ returns-after-find_held-clause-outcome g c =
       | in-Some w ↦ known_foretold gr c.plainly.result c.in-Start.sort c.in-Start.case hs w.in-Some.field-0
           (sym (w.in-Some.ensures.place ∙ ap (λ n. place_in n hs) c.root.ensures)) (c.plainly.ensures.answer ∙ w.answer-is)
           c.plainly.ensures.equations c.plainly.ensures.children
-      | in-None w ↦ starts_foretold gr c.plainly.result c.in-Start.sort c.in-Start.case hs
-          (sym (w.in-None.ensures.place ∙ ap (λ n. place_in n hs) c.root.ensures)) (c.plainly.ensures.answer ∙ w.answer-is)
+      | in-None w ↦ starts_foretold gr c.plainly.result c.in-Start.sort c.in-Start.case hs (sym (w.in-None.ensures.place ∙ ap (λ n. place_in n hs) c.root.ensures))
+          (c.plainly.ensures.answer ∙ w.answer-is)
           c.plainly.ensures.equations c.plainly.ensures.children
     ])
 

@@ -19,7 +19,7 @@ learn-requires-clause-few g c = few_valid c.args.g.now.grammar (equation_of c.ar
 pub learn-requires-clause-fits : goal.learn-requires-clause-fits
 learn-requires-clause-fits g c =
     let old = c.args.self.now in
-    subst (λ x. IsFitKept (grammar_of x) (g.F.Facts.names old.facts) old.kept) (sym (c.grammar.ensures.value ∙ c.requires.grammar)) old.stands.fits
+    subst (λ x. IsFitKept (grammar_of x) (g.F.Facts.names old.facts) old.kept) (sym (c.grammar.ensures.value ∙ c.requires.grammar)) (old.held.numbers, old.stands.fits)
 
 pub returns-clause-facts : goal.returns-clause-facts
 returns-clause-facts g c = learnt_facts _ _ c.args.e c.learn.result c.learn.ensures.added c.learn.ensures.err
@@ -32,7 +32,7 @@ returns-clause-steps g c =
     let r = c.grammar.ensures.value in
     let s = r ∙ c.requires.grammar in
     subst (λ n. c.learn.new.steps ≤ c.args.steps.now + n) (λ i. waiting_on c.args.e.left (site_worklist (grammar_of (r i)) k (all_of (grammar_of (s i)) hs)))
-    (c.learn.ensures.steps hs (subst (λ x. IsKept (grammar_of x) hs k (g.F.Facts.names old.facts) old.kept) (sym s) old.stands))
+    (c.learn.ensures.steps old.held (subst (λ x. IsKept (grammar_of x) old.held k (g.F.Facts.names old.facts) old.kept) (sym s) old.stands))
 
 pub invariant_of-self : goal.invariant_of-self
 invariant_of-self g c =
@@ -55,6 +55,6 @@ invariant_of-self g c =
         nodes = old.valid.nodes;
         equations = learnt_valid gr _ _ c.args.e c.learn.result c.learn.ensures.added c.learn.ensures.err ok old.valid.equations;
       };
-      stands = subst (λ x. IsKept (grammar_of x) hs (g.F.Facts.map facts) (g.F.Facts.names facts) c.learn.new.kept) s
-          (c.learn.ensures.kept hs (subst (λ x. IsKept (grammar_of x) hs (g.F.Facts.map old.facts) (g.F.Facts.names old.facts) old.kept) (sym s) old.stands));
+      stands = subst (λ x. IsKept (grammar_of x) old.held (g.F.Facts.map facts) (g.F.Facts.names facts) c.learn.new.kept) s
+          (c.learn.ensures.kept old.held (subst (λ x. IsKept (grammar_of x) old.held (g.F.Facts.map old.facts) (g.F.Facts.names old.facts) old.kept) (sym s) old.stands));
     }

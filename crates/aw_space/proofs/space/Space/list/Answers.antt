@@ -15,7 +15,7 @@ loop-at-preserved g c =
     let at = c.loop-at.at in
     let there = c.at.ensures in
     let one : suc at ≡ at + 1 = omega arith in
-    c.in_ok-push_items.ensures gr hs h there refl old.stands
+    c.in_ok-push_items.ensures gr old.held h (record { place = at; numbered = c.number_at-number.ensures; there = there }) refl old.stands
     ∙ ap (λ xs. xs ++ open_items gr (state_of h.done) k (held_of gr h)) c.loop-at.invariant
     ∙ sym (site_taken gr k hs at h there)
     ∙ ap (λ n. site_worklist gr k (all_of gr (take n hs))) one

@@ -3,7 +3,7 @@ use Rattle.aw_space.proofs.space.Space.new.Goals as goal
 
 pub invariant_of-result : goal.invariant_of-result
 invariant_of-result g c = record {
-  sound = new_sound _ _ _ _ _ c.new-held.ensures c.requires;
-  valid = new_valid _ _ _ c.new-held.ensures c.requires;
-  stands = new_kept _ _ _ _ c.new-kept.result c.new-held.ensures (c.new-kept.ensures _ _ _);
+  sound = new_sound _ _ _ _ _ c.new-held.ensures.items c.requires;
+  valid = new_valid _ _ _ c.new-held.ensures.items c.requires;
+  stands = new_kept _ _ _ _ c.new-kept.result c.new-held.ensures.items c.new-held.ensures.numbers (c.new-kept.ensures _ _ _);
 }

@@ -18,7 +18,7 @@ put_open-requires-clause-ready g c =
 pub put_open-requires-clause-stands : goal.put_open-requires-clause-stands
 put_open-requires-clause-stands g c =
     let old = c.args.self.now in
-    subst (λ x. IsKept (grammar_of x) old.held.items (g.F.Facts.map old.facts) (g.F.Facts.names old.facts) old.kept) (sym c.grammar-grammar.ensures.value) old.stands
+    subst (λ x. IsKept (grammar_of x) old.held (g.F.Facts.map old.facts) (g.F.Facts.names old.facts) old.kept) (sym c.grammar-grammar.ensures.value) old.stands
 
 pub put_open-requires-clause-place : goal.put_open-requires-clause-place
 put_open-requires-clause-place g c = c.requires.ready.1
@@ -41,7 +41,7 @@ invariant_of-self g c =
     record {
       sound = held_sound gr old.role hs ks k k names names ordered grows old.sound h c.requires.may held refl (ready_named gr names c.args.opening c.requires.ready.0);
       valid = held_valid gr old.role hs ks k k names names ordered grows old.sound h c.requires.may held refl;
-      stands = subst (λ x. IsKept (grammar_of x) ks k names c.put_open.new.kept) c.grammar-grammar.ensures.value c.put_open.ensures.stands;
+      stands = subst (λ x. IsKept (grammar_of x) c.put_open.new.held k names c.put_open.new.kept) c.grammar-grammar.ensures.value c.put_open.ensures.stands;
     }
 
 pub returns-clause-steps : goal.returns-clause-steps

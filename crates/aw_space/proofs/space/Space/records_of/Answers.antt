@@ -16,5 +16,5 @@ returns-clause-ready g c =
 pub invariant_of-self : goal.invariant_of-self
 invariant_of-self g c =
     let old = c.args.self.now in
-    let s = step_named (grammar_of old.accepted.now.grammar) old.role old.held.items _ _ old.kept old.sound old.valid old.stands _ _ c.all_ready.ensures.map c.all_ready.ensures.names in
+    let s = step_named (grammar_of old.accepted.now.grammar) old.role old.held _ _ old.kept old.sound old.valid old.stands _ _ c.all_ready.ensures.map c.all_ready.ensures.names in
     record { sound = s.sound; valid = s.valid; stands = s.stands }

@@ -43,7 +43,7 @@ put_if-requires-clause-ready g c =
 pub put_if-requires-clause-stands : goal.put_if-requires-clause-stands
 put_if-requires-clause-stands g c =
     let mid = c.make_room.new.self in
-    subst (λ x. IsKept (grammar_of x) mid.held.items (g.F.Facts.map mid.facts) (g.F.Facts.names mid.facts) mid.kept) (sym c.grammar-grammar.ensures.value) mid.stands
+    subst (λ x. IsKept (grammar_of x) mid.held (g.F.Facts.map mid.facts) (g.F.Facts.names mid.facts) mid.kept) (sym c.grammar-grammar.ensures.value) mid.stands
 
 pub learn_in_turn-requires-clause-few : goal.learn_in_turn-requires-clause-few
 learn_in_turn-requires-clause-few g c =
@@ -59,7 +59,7 @@ learn_in_turn-requires-clause-named g c =
     subst (λ (es : List Equation). all_named (g.F.Facts.names c.make_room.new.self.facts) (lefts_of (map equation_of es)) ≡ true) (sym c.into_vec.ensures) c.in_ok-opening.ensures.named
 
 pub learn_in_turn-requires-clause-fits : goal.learn_in_turn-requires-clause-fits
-learn_in_turn-requires-clause-fits g c = c.put_if.ensures.stands.fits
+learn_in_turn-requires-clause-fits g c = (c.put_if.new.held.numbers, c.put_if.ensures.stands.fits)
 
 pub invariant_of-self : goal.invariant_of-self
 invariant_of-self g c =
@@ -84,8 +84,8 @@ invariant_of-self g c =
     record {
       sound = taken_sound gr mid.role hs ks _ _ p es held told call may names more named c.put_if.ensures.ordered grows mid.sound;
       valid = taken_valid gr mid.role hs ks _ _ p es held told call may mid.valid;
-      stands = subst (λ x. IsKept (grammar_of x) ks (g.F.Facts.map c.learn_in_turn.new.facts) more c.learn_in_turn.new.kept)
-          c.grammar-grammar.ensures.value (c.learn_in_turn.ensures.kept ks c.put_if.ensures.stands);
+      stands = subst (λ x. IsKept (grammar_of x) c.put_if.new.held (g.F.Facts.map c.learn_in_turn.new.facts) more c.learn_in_turn.new.kept) c.grammar-grammar.ensures.value
+          (c.learn_in_turn.ensures.kept c.put_if.new.held c.put_if.ensures.stands);
     }
 
 pub returns-clause-held : goal.returns-clause-held
@@ -115,6 +115,6 @@ returns-clause-steps g c =
       c.put_if.ensures.steps,
       tests_if_are gr _ mid.held mid.kept c.in_ok-opening.opening c.in_ok-opening.ensures.ready,
       ap (rules_if gr) new,
-      c.learn_in_turn.ensures.steps c.put_if.new.held.items c.put_if.ensures.stands,
+      c.learn_in_turn.ensures.steps c.put_if.new.held c.put_if.ensures.stands,
       turns,
     ))

@@ -17,7 +17,7 @@ use Rattle.aw_space.specs.Sound.{all_inherited}
 use Rattle.aw_space.specs.Waking.{IsKnown}
 use Rattle.aw_space.proofs.Arriving.{rule_sound, rule_valid}
 use Rattle.aw_space.proofs.Openings.{ready_grows, all_ready_named, all_tests_are}
-use Rattle.aw_space.proofs.Waking.{named_more, grown_by_all, all_known, sum_lefts, closed_bound}
+use Rattle.aw_space.proofs.Waking.{closed_row, named_more, grown_by_all, all_known, sum_lefts, closed_bound}
 use Rattle.aw_space.proofs.space.Space.take_ready.Goals as goal
 
 pub add_all_ready-requires-clause-new : goal.add_all_ready-requires-clause-new
@@ -38,12 +38,13 @@ pub wake_all-requires-clause-fits : goal.wake_all-requires-clause-fits
 wake_all-requires-clause-fits g c =
     let old = c.args.self.now in
     let gr = grammar_of old.accepted.now.grammar in
-    let hs = old.held.items in
     let k = g.F.Facts.map old.facts in
     let names = g.F.Facts.names old.facts in
-    let done = c.args.taking.copies.done in
+    let row = c.mark_done.new.self in
+    let closed = closed_row gr old.held row k names c.close.new.self c.args.at c.args.taking.copies.done c.mark_done.ensures.items c.mark_done.ensures.numbers
+    (c.close.ensures.kept gr old.held c.args.at c.args.taking.copies.done k names [] c.number_at-number.ensures old.stands) in
     subst (λ x. IsFitKept (grammar_of x) (g.F.Facts.names c.add_all_ready.new.f) c.close.new.self) (sym c.grammar-grammar.ensures.value)
-    (named_more gr (done_at done c.args.at hs) k names _ c.close.new.self c.add_all_ready.ensures.names (c.close.ensures.kept gr hs k names [] done old.stands)).fits
+    (row.numbers, (named_more gr row k names _ c.close.new.self c.add_all_ready.ensures.names closed).fits)
 
 pub put_all_open-requires-clause-ordered : goal.put_all_open-requires-clause-ordered
 put_all_open-requires-clause-ordered g c =
@@ -62,20 +63,17 @@ pub put_all_open-requires-clause-stands : goal.put_all_open-requires-clause-stan
 put_all_open-requires-clause-stands g c =
     let old = c.args.self.now in
     let gr = grammar_of old.accepted.now.grammar in
-    let r = grammar_of c.grammar-grammar.result.now in
-    let hs = old.held.items in
     let k = g.F.Facts.map old.facts in
     let l = g.F.Facts.map c.add_all_ready.new.f in
     let names = g.F.Facts.names old.facts in
     let more = g.F.Facts.names c.add_all_ready.new.f in
-    let done = c.args.taking.copies.done in
-    let ks = done_at done c.args.at hs in
-    subst (λ xs. IsKept r xs l more c.wake_all.new.kept) (sym c.mark_done.ensures.items)
-    (c.wake_all.ensures.kept ks
-    (subst (λ x. IsKeptBut (grammar_of x) ks l more c.as_slice.result.now c.close.new.self) (sym c.grammar-grammar.ensures.value)
-    (subst (λ late. IsKeptBut gr ks l more late c.close.new.self) (sym (c.as_slice.ensures.value ∙ c.requires.all.told))
-    (grown_by_all gr ks k l more c.args.equations.items c.close.new.self c.add_all_ready.ensures.map
-    (named_more gr ks k names more c.close.new.self c.add_all_ready.ensures.names (c.close.ensures.kept gr hs k names [] done old.stands))))))
+    let row = c.mark_done.new.self in
+    let closed = closed_row gr old.held row k names c.close.new.self c.args.at c.args.taking.copies.done c.mark_done.ensures.items c.mark_done.ensures.numbers
+    (c.close.ensures.kept gr old.held c.args.at c.args.taking.copies.done k names [] c.number_at-number.ensures old.stands) in
+    c.wake_all.ensures.kept row
+    (subst (λ x. IsKeptBut (grammar_of x) row l more c.as_slice.result.now c.close.new.self) (sym c.grammar-grammar.ensures.value)
+    (subst (λ late. IsKeptBut gr row l more late c.close.new.self) (sym (c.as_slice.ensures.value ∙ c.requires.all.told))
+    (grown_by_all gr row k l more c.args.equations.items c.close.new.self c.add_all_ready.ensures.map (named_more gr row k names more c.close.new.self c.add_all_ready.ensures.names closed))))
 
 pub put_all_open-requires-clause-room : goal.put_all_open-requires-clause-room
 put_all_open-requires-clause-room g c = c.wake_all.ensures.room _ _ (c.close.ensures.room _ _ c.requires.all.ready.room)
@@ -100,7 +98,7 @@ invariant_of-self g c =
     record {
       sound = rule_sound gr old.role hs ks _ l names more ordered grows old.sound c.args.at done es own c.requires.may held c.add_all_ready.ensures.map named;
       valid = rule_valid gr old.role hs ks _ l names more ordered grows old.sound c.args.at done es own c.requires.may held c.add_all_ready.ensures.map;
-      stands = subst (λ x. IsKept (grammar_of x) ks l more c.put_all_open.new.kept) c.grammar-grammar.ensures.value c.put_all_open.ensures.stands;
+      stands = subst (λ x. IsKept (grammar_of x) c.put_all_open.new.held l more c.put_all_open.new.kept) c.grammar-grammar.ensures.value c.put_all_open.ensures.stands;
     }
 
 pub returns-clause-held : goal.returns-clause-held
@@ -116,8 +114,8 @@ returns-clause-steps g c =
     let names = g.F.Facts.names old.facts in
     let more = g.F.Facts.names c.add_all_ready.new.f in
     let most = λ (r : Ref). waiting_on r (site_worklist gr k (all_of gr hs)) in
-    let bound = closed_bound gr hs k l more old.kept c.close.new.self (g.met.F.Facts.once c.add_all_ready.new.f) c.close.ensures.fewer
-    (named_more gr hs k names more old.kept c.add_all_ready.ensures.names old.stands) in
+    let bound = closed_bound gr old.held k l more old.kept c.close.new.self (g.met.F.Facts.once c.add_all_ready.new.f) c.close.ensures.fewer
+    (named_more gr old.held k names more old.kept c.add_all_ready.ensures.names old.stands) in
     omega (
       arith,
       c.put_all_open.ensures.steps,

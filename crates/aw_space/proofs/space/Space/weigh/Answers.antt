@@ -24,19 +24,20 @@ weigh_at-requires-clause-takes g c =
     (takes_here (grammar_of old.accepted.now.grammar) old.role old.held.items c.in-Some.place h old.sound.own c.at.ensures)
 
 pub weigh_at-requires-clause-declared : goal.weigh_at-requires-clause-declared
-weigh_at-requires-clause-declared g c = subst (λ (x : Grammar). is_some (slice_get x.rules c.args.number) ≡ true) (sym c.grammar.ensures.value) c.requires.declared
+weigh_at-requires-clause-declared g c = subst (λ (x : Grammar). is_some (slice_get x.rules c.args.rule) ≡ true) (sym c.grammar.ensures.value) c.requires.declared
 
 pub weigh_at-requires-clause-named : goal.weigh_at-requires-clause-named
 weigh_at-requires-clause-named g c =
     let old = c.args.self.now in
-    c.slots.ensures (grammar_of old.accepted.now.grammar) old.held.items c.at.result.now (g.F.Facts.map old.facts) (g.F.Facts.names old.facts) c.at.ensures old.stands
+    let here = record { place = c.in-Some.place; numbered = c.number_at-number.ensures; there = c.at.ensures } in
+    c.slots.ensures (grammar_of old.accepted.now.grammar) old.held c.at.result.now (g.F.Facts.map old.facts) (g.F.Facts.names old.facts) here old.stands
 
 pub weigh_at-requires-clause-stands : goal.weigh_at-requires-clause-stands
 weigh_at-requires-clause-stands g c =
     let old = c.args.self.now in
     let h = c.at.result.now in
-    subst (λ x. StandsAt (grammar_of x) (g.F.Facts.map old.facts) h c.args.number c.in_ok-stands-in-Some.stands) (sym c.grammar.ensures.value)
-    (c.in_ok-stands-in-Some.ensures (grammar_of old.accepted.now.grammar) old.held.items h c.at.ensures old.stands)
+    subst (λ x. StandsAt (grammar_of x) (g.F.Facts.map old.facts) h c.args.rule c.in_ok-stands-in-Some.stands) (sym c.grammar.ensures.value)
+    (c.in_ok-stands-in-Some.ensures (grammar_of old.accepted.now.grammar) old.held h (record { place = c.in-Some.place; numbered = c.number_at-number.ensures; there = c.at.ensures }) old.stands)
 
 pub returns-in_ok-stands-in-Some-clause-value : goal.returns-in_ok-stands-in-Some-clause-value
 returns-in_ok-stands-in-Some-clause-value g c =
@@ -48,17 +49,17 @@ returns-in_ok-stands-in-Some-clause-value g c =
     let args = map ground_of c.args.args.now in
     let h = c.at.result.now in
     IfOk-weaker c.weigh_at.result
-    (λ (w : Weighed). Weighs (grammar_of r) c.args.number w (by_held (Some (held_of (grammar_of r) h)) (grammar_of r) k h.node c.args.number args))
-    (λ (w : Weighed). Weighs gr c.args.number w (outcome_in (all_of gr hs) k gr (Develop c.args.node.now c.args.number args)))
-    (λ w weighs. weighs_here gr hs c.args.node.now c.in-Some.place h k c.args.number args w (sym c.requires.found ∙ c.in-Some.is) c.at.ensures
-    (subst (λ x. Weighs (grammar_of x) c.args.number w (by_held (Some (held_of (grammar_of x) h)) (grammar_of x) k h.node c.args.number args)) c.grammar.ensures.value weighs))
+    (λ (w : Weighed). Weighs (grammar_of r) c.args.rule w (by_held (Some (held_of (grammar_of r) h)) (grammar_of r) k h.node c.args.rule args))
+    (λ (w : Weighed). Weighs gr c.args.rule w (outcome_in (all_of gr hs) k gr (Develop c.args.node.now c.args.rule args)))
+    (λ w weighs. weighs_here gr hs c.args.node.now c.in-Some.place h k c.args.rule args w (sym c.requires.found ∙ c.in-Some.is) c.at.ensures
+    (subst (λ x. Weighs (grammar_of x) c.args.rule w (by_held (Some (held_of (grammar_of x) h)) (grammar_of x) k h.node c.args.rule args)) c.grammar.ensures.value weighs))
     c.weigh_at.ensures.value
 
 pub returns-in-None-clause-value : goal.returns-in-None-clause-value
 returns-in-None-clause-value g c = λ rule here.
     let old = c.args.self.now in
     let gr = grammar_of old.accepted.now.grammar in
-    ap (λ o. by_held o gr (g.F.Facts.map old.facts) c.args.node.now c.args.number (map ground_of c.args.args.now))
+    ap (λ o. by_held o gr (g.F.Facts.map old.facts) c.args.node.now c.args.rule (map ground_of c.args.args.now))
     (sym (held_nowhere gr c.args.node.now old.held.items (sym c.requires.found ∙ c.in-None.is)))
 
 pub returns-in_ok-stands-in-Some-clause-room : goal.returns-in_ok-stands-in-Some-clause-room
@@ -67,5 +68,5 @@ returns-in_ok-stands-in-Some-clause-room g c =
     let gr = old.accepted.now.grammar in
     let h = c.at.result.now in
     let node = node_here (grammar_of gr) c.args.node.now old.held.items c.in-Some.place h (sym c.requires.found ∙ c.in-Some.is) c.at.ensures in
-    IfOk-weaker c.weigh_at.result (HasRoomFor c.grammar.result.now c.args.number h.node) (HasRoomFor gr c.args.number c.args.node.now)
-    (λ w room. subst (λ n. HasRoomFor gr c.args.number n w) node (subst (λ x. HasRoomFor x c.args.number h.node w) c.grammar.ensures.value room)) c.weigh_at.ensures.room
+    IfOk-weaker c.weigh_at.result (HasRoomFor c.grammar.result.now c.args.rule h.node) (HasRoomFor gr c.args.rule c.args.node.now)
+    (λ w room. subst (λ n. HasRoomFor gr c.args.rule n w) node (subst (λ x. HasRoomFor x c.args.rule h.node w) c.grammar.ensures.value room)) c.weigh_at.ensures.room

@@ -11,47 +11,38 @@ use Rattle.aw_standing.proofs.Opening.{kept_closed}
 use Rattle.aw_standing.proofs.kept.Kept.close.Goals as goal
 
 pub returns-in-Some-clause-kept : goal.returns-in-Some-clause-kept
-returns-in-Some-clause-kept c g hs k names late done f =
-    let ns = c.args.self.now.numbers.items in
+returns-in-Some-clause-kept c g row at done k names late here f =
+    let ns = row.numbers in
     let xs = c.args.self.now.records.items in
-    let n = c.at-number.result in
+    let n = c.args.number in
     let x = c.in-Some.entry.now in
     let y : Record = record { slots = x.slots; sort = x.sort; deep = x.deep; marks = c.shrink_to_fit.new.self } in
-    let here = c.at-number.ensures in
-    let within : n < length xs = f.fits.known c.args.at n here in
+    let within : n < length xs = f.fits.known at n here in
     let value : x ≡ get_or xs n x = search rules in
     let old = slice_get_read xs (length xs) n x refl within value in
-    subst (λ z. AreKept g (done_at done c.args.at hs) k names late ns (slice_set xs n y) z) (sym c.drop_node.ensures.waiting)
-    (kept_closed g names c.args.at n ns xs (slice_set xs n y) c.args.self.now.work.waiting x y here old (set_at xs n y within)
-    (c.shrink_to_fit.ensures.items ∙ c.clear.ensures.items) refl refl refl hs k late done f)
+    subst (λ z. AreKept g (done_at done at row.items) k names late ns (slice_set xs n y) z) (sym c.drop_node.ensures.waiting)
+    (kept_closed g names at n ns xs (slice_set xs n y) c.args.self.now.work.waiting x y here old (set_at xs n y within)
+    (c.shrink_to_fit.ensures.items ∙ c.clear.ensures.items) refl refl refl row.items k late done f)
 
 pub returns-in-Some-clause-room : goal.returns-in-Some-clause-room
 returns-in-Some-clause-room c n w r = record {
-  places = r.places;
   entries = r.entries;
-  few = r.few;
-  spare = omega (arith, r.spare, c.drop_node.ensures.spare, ap length c.drop_node.ensures.waiting, others_fewer c.at-number.result c.args.self.now.work.waiting);
+  spare = omega (arith, r.spare, c.drop_node.ensures.spare, ap length c.drop_node.ensures.waiting, others_fewer c.args.number c.args.self.now.work.waiting);
 }
 
 pub returns-in_default-clause-kept : goal.returns-in_default-clause-kept
-returns-in_default-clause-kept c g hs k names late done f =
-    let ns = c.args.self.now.numbers.items in
-    let n = c.at-number.result in
-    let here = c.at-number.ensures in
-    absurd (omega (arith, f.fits.known c.args.at n here, c.in_default.ensures.item.3))
+returns-in_default-clause-kept c g row at done k names late here f = absurd (omega (arith, f.fits.known at c.args.number here, c.in_default.ensures.item.3))
 
 pub returns-in_default-clause-room : goal.returns-in_default-clause-room
 returns-in_default-clause-room c n w r = record {
-  places = r.places;
   entries = r.entries;
-  few = r.few;
-  spare = omega (arith, r.spare, c.drop_node.ensures.spare, ap length c.drop_node.ensures.waiting, others_fewer c.at-number.result c.args.self.now.work.waiting);
+  spare = omega (arith, r.spare, c.drop_node.ensures.spare, ap length c.drop_node.ensures.waiting, others_fewer c.args.number c.args.self.now.work.waiting);
 }
 
 pub returns-in-Some-clause-fewer : goal.returns-in-Some-clause-fewer
 returns-in-Some-clause-fewer c q = subst (λ z. waiting_at q z ≤ waiting_at q c.args.self.now.work.waiting) (sym c.drop_node.ensures.waiting)
-    (others_wait_less q c.at-number.result c.args.self.now.work.waiting)
+    (others_wait_less q c.args.number c.args.self.now.work.waiting)
 
 pub returns-in_default-clause-fewer : goal.returns-in_default-clause-fewer
 returns-in_default-clause-fewer c q = subst (λ z. waiting_at q z ≤ waiting_at q c.args.self.now.work.waiting) (sym c.drop_node.ensures.waiting)
-    (others_wait_less q c.at-number.result c.args.self.now.work.waiting)
+    (others_wait_less q c.args.number c.args.self.now.work.waiting)

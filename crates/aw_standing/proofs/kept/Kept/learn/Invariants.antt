@@ -4,7 +4,7 @@ use Rattle.aw_term.specs.Names.{Ref}
 use Rattle.aw_store.specs.Chase.{Missing, chase}
 use Rattle.aw_store.specs.NamedRefs.{body_at}
 use Rattle.aw_grammar.specs.GrammarOf.{grammar_of}
-use Rattle.aw_node_list.specs.declared.held.Held.{Held}
+use Rattle.aw_node_list.specs.Row.{Row}
 use Rattle.aw_work.specs.Triples.{waiting_at}
 use Rattle.aw_standing.specs.KeptStates.{IsFitKept, IsKeptBut, HasRoom}
 use Rattle.aw_standing.proofs.kept.Kept.learn.Given as goal
@@ -12,8 +12,8 @@ use Rattle.aw_standing.proofs.kept.Kept.learn.Given as goal
 abbrev pub invariant-loop-pair : goal.invariant-loop-pair
 invariant-loop-pair g l = record {
   fits : IsFitKept (grammar_of l.grammar) (g.F.Facts.names l.facts) l.self;
-  kept : (hs : List Held) (late : List Ref) → IsKeptBut (grammar_of l.grammar) hs (g.F.Facts.map l.facts) (g.F.Facts.names l.facts) late l.initial.self
-      → IsKeptBut (grammar_of l.grammar) hs (g.F.Facts.map l.facts) (g.F.Facts.names l.facts) late l.self;
+  kept : (row : Row) (late : List Ref) → IsKeptBut (grammar_of l.grammar) row (g.F.Facts.map l.facts) (g.F.Facts.names l.facts) late l.initial.self
+      → IsKeptBut (grammar_of l.grammar) row (g.F.Facts.map l.facts) (g.F.Facts.names l.facts) late l.self;
   room : (n w : ℕ) → HasRoom l.initial.self n w → HasRoom l.self n w;
   fewer : (q : ℕ) → is_some (body_at (g.F.Facts.map l.facts) (g.F.Facts.names l.facts) q) ≡ true → waiting_at q l.self.work.waiting ≤ waiting_at q l.initial.self.work.waiting;
   steps : l.steps + waiting_at l.slot l.self.work.waiting ≤ l.initial.steps + waiting_at l.slot l.initial.self.work.waiting;
