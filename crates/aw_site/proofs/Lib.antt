@@ -26,3 +26,4 @@ pub mod Outboxes
 pub mod ValidInRange
 pub mod InRange
 pub mod Listing
+pub mod NotedValid

@@ -8,6 +8,7 @@ use Rattle.aw_site.specs.Answers.{sent_by}
 use Rattle.aw_site.specs.Shown.{Shows}
 use Rattle.aw_site.proofs.Beginning.{shown_on}
 use Rattle.aw_site.proofs.Coming.{on_ok}
+use Rattle.aw_site.proofs.NotedValid.{asked_on, watched_on, choice_notes}
 use Rattle.aw_site.proofs.Outboxes.{sendable_on, choice_sends}
 use Rattle.aw_site.proofs.site.Site.choose_into.Goals as goal
 
@@ -23,6 +24,14 @@ invariant_of-self g c =
           (λ s shows. choice_sends g.F.Facts old.space old.subs old.outbox.items old.loads s shows c.args.g.now.grammar (choice_of c.args.choice.now) c.requires.grammar c.requires.ok c.requires.here)
           c.choose-answered.ensures.site c.choose-answered.ensures.err old.shown old.sendable;
       short = c.choose-answered.ensures.short old.short;
+      asked = asked_on g.F.Facts old.space c.choose-answered.new.space old.subs c.choose-answered.new.subs old.outbox.items c.choose-answered.new.outbox.items old.loads
+          (λ s. after_choice s (choose gr s (choice_of c.args.choice.now))) (ap grammar_of c.choose-answered.ensures.grammar)
+          (λ s shows. choice_notes g.F.Facts old.space old.subs old.outbox.items old.loads s shows c.args.g.now.grammar (choice_of c.args.choice.now) c.requires.grammar c.requires.ok c.requires.here)
+          old.shown c.choose-answered.result c.choose-answered.ensures.site c.choose-answered.ensures.err old.asked;
+      watched = watched_on g.F.Facts old.space c.choose-answered.new.space old.subs c.choose-answered.new.subs old.outbox.items c.choose-answered.new.outbox.items old.loads
+          (λ s. after_choice s (choose gr s (choice_of c.args.choice.now))) (ap grammar_of c.choose-answered.ensures.grammar)
+          (λ s shows. choice_notes g.F.Facts old.space old.subs old.outbox.items old.loads s shows c.args.g.now.grammar (choice_of c.args.choice.now) c.requires.grammar c.requires.ok c.requires.here)
+          old.shown c.choose-answered.result c.choose-answered.ensures.site c.choose-answered.ensures.err old.watched;
     }
 
 pub returns-clause-copy : goal.returns-clause-copy
