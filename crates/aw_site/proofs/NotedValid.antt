@@ -9,13 +9,11 @@ use Rattle.aw_term.specs.Names.{Ref, ref_eq}
 use Rattle.aw_term.specs.Rules.{Grammar}
 use Rattle.aw_term.specs.Choices.{Choice}
 use Rattle.aw_term.specs.Held.{held_of}
-use Rattle.aw_term.specs.WellFormed.{Each}
 use Rattle.aw_term.proofs.RefTests.{ref_eq-true}
 use Rattle.aw_base.specs.ChoiceFits.{ref_ok, choice_ok}
 use Rattle.aw_grammar.specs.declared.grammar.Grammar as program
 use Rattle.aw_grammar.specs.GrammarOf.{grammar_of}
 use Rattle.aw_store.specs.declared.facts.Facts.{Ghosts}
-use Rattle.aw_apply.specs.Made.{Call}
 use Rattle.aw_apply.specs.Messages.{Kind, Calls, Asks, Tells, Message, BadName, NotMine, Clash}
 use Rattle.aw_msg.specs.declared.message.Message as sent
 use Rattle.aw_law_sites.specs.Asking.{all_mentions, all_inherited, is_wanted, asked_too}
@@ -35,7 +33,7 @@ use Rattle.aw_space.specs.Spaces.{is_home, making}
 use Rattle.aw_subs.specs.Entries.{has_bit, is_asked, watchers}
 use Rattle.aw_subs.specs.Noted.{asked_in, watches_in}
 use Rattle.aw_subs.specs.declared.subs.Subs.{Subs}
-use Rattle.aw_site.specs.Chosen.{worked, reaction_of}
+use Rattle.aw_site.specs.Chosen.{worked}
 use Rattle.aw_site.specs.Doing.{doing}
 use Rattle.aw_site.specs.Notes.{AsksValid, WatchedValid}
 use Rattle.aw_site.specs.Plans.{made_mentions}
