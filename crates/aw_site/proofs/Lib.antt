@@ -26,3 +26,4 @@ pub mod ValidPlans
 pub mod Outboxes
 pub mod ValidInRange
 pub mod InRange
+pub mod NotedValid

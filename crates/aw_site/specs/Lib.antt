@@ -14,3 +14,4 @@ pub mod Came
 pub mod Seen
 pub mod Sendable
 pub mod Parents
+pub mod Notes

@@ -7,6 +7,8 @@ ghost use Rattle.aw_msg.specs.MessageView.{message_of};
 ghost use Rattle.aw_law_sites.specs.Worlds.{node_of};
 ghost use Rattle.aw_space.specs.Keeping.{KeepsFacts, KeepsNodes, KeepsNodesBut};
 ghost use Rattle.aw_space.specs.Spaces.{is_home};
+ghost use Rattle.aw_subs.specs.Noted.{asked_in, watches_in};
+ghost use Rattle.aw_site.specs.Notes.{AsksValid, WatchedValid};
 ghost use Rattle.aw_site.specs.Sendable.{all_sendable, all_short};
 
 use crate::received::Received;
@@ -28,6 +30,8 @@ pub struct Site<'g, F: Facts> {
     pub(crate) loads: bool,
     pub ghost sendable: { all_sendable (grammar_of space.accepted.now.grammar) (list_map (message_of (grammar_of space.accepted.now.grammar)) outbox.items) ≡ true },
     pub ghost short: { all_short outbox.items ≡ true },
+    pub ghost asked: { AsksValid (grammar_of space.accepted.now.grammar) (asked_in subs) },
+    pub ghost watched: { WatchedValid (grammar_of space.accepted.now.grammar) (watches_in subs) },
 }
 
 impl<'g, F: Facts> Site<'g, F> {

@@ -7,6 +7,7 @@ use Rattle.aw_law_sites.specs.SiteEvents.{after_choice}
 use Rattle.aw_site.specs.Answers.{sent_by}
 use Rattle.aw_site.specs.Seen.{choice_at, site_seen}
 use Rattle.aw_site.proofs.Coming.{on_ok}
+use Rattle.aw_site.proofs.NotedValid.{asked_on, watched_on, choice_notes}
 use Rattle.aw_site.proofs.Outboxes.{sendable_on, choice_sends}
 use Rattle.aw_site.proofs.SeenParts.{shows_seen, if_seen, on_seen, done_seen, kept_seen}
 use Rattle.aw_site.proofs.site.Site.choose_into.Goals as goal
@@ -67,4 +68,16 @@ invariant_of-self g c =
           c.choose-answered.result c.choose-answered.ensures.err)
           old.sendable;
       short = c.choose-answered.ensures.short old.short;
+      asked = asked_on g.F.Facts old.space c.choose-answered.new.space old.subs c.choose-answered.new.subs old.outbox.items c.choose-answered.new.outbox.items old.loads
+          (λ s. after_choice s (choose gr s (choice_of c.args.choice.now))) (ap grammar_of c.choose-answered.ensures.grammar) (site_seen g.F.Facts old)
+          (shows_seen g.F.Facts old.space old.subs old.outbox.items old.loads)
+          (choice_notes g.F.Facts old.space old.subs old.outbox.items old.loads (site_seen g.F.Facts old) (shows_seen g.F.Facts old.space old.subs old.outbox.items old.loads)
+          c.args.g.now.grammar (choice_of c.args.choice.now) c.requires.grammar c.requires.ok c.requires.here)
+          c.choose-answered.result c.choose-answered.ensures.site c.choose-answered.ensures.err old.asked;
+      watched = watched_on g.F.Facts old.space c.choose-answered.new.space old.subs c.choose-answered.new.subs old.outbox.items c.choose-answered.new.outbox.items old.loads
+          (λ s. after_choice s (choose gr s (choice_of c.args.choice.now))) (ap grammar_of c.choose-answered.ensures.grammar) (site_seen g.F.Facts old)
+          (shows_seen g.F.Facts old.space old.subs old.outbox.items old.loads)
+          (choice_notes g.F.Facts old.space old.subs old.outbox.items old.loads (site_seen g.F.Facts old) (shows_seen g.F.Facts old.space old.subs old.outbox.items old.loads)
+          c.args.g.now.grammar (choice_of c.args.choice.now) c.requires.grammar c.requires.ok c.requires.here)
+          c.choose-answered.result c.choose-answered.ensures.site c.choose-answered.ensures.err old.watched;
     }

@@ -6,6 +6,7 @@ use Rattle.aw_law_sites.specs.SiteEvents.{after_message}
 use Rattle.aw_site.specs.Answers.{sent_for, IsReceived}
 use Rattle.aw_site.specs.Seen.{message_at, site_seen}
 use Rattle.aw_site.proofs.Coming.{on_ok}
+use Rattle.aw_site.proofs.NotedValid.{asked_on, watched_on, message_notes}
 use Rattle.aw_site.proofs.Outboxes.{sendable_on, message_sends}
 use Rattle.aw_site.proofs.SeenParts.{shows_seen, if_seen, on_seen, done_seen, kept_seen}
 use Rattle.aw_site.proofs.site.Site.receive_into.Goals as goal
@@ -59,4 +60,14 @@ invariant_of-self g c =
           c.receive-received.result c.receive-received.ensures.err)
           old.sendable;
       short = c.receive-received.ensures.short old.short;
+      asked = asked_on g.F.Facts old.space c.receive-received.new.space old.subs c.receive-received.new.subs old.outbox.items c.receive-received.new.outbox.items old.loads
+          (λ s. after_message s (receive gr s (message_of gr c.args.m.now))) (ap grammar_of c.receive-received.ensures.grammar) (site_seen g.F.Facts old)
+          (shows_seen g.F.Facts old.space old.subs old.outbox.items old.loads)
+          (message_notes (grammar_of old.space.accepted.now.grammar) gr (site_seen g.F.Facts old) (message_of gr c.args.m.now) (ap grammar_of c.requires))
+          c.receive-received.result c.receive-received.ensures.site c.receive-received.ensures.err old.asked;
+      watched = watched_on g.F.Facts old.space c.receive-received.new.space old.subs c.receive-received.new.subs old.outbox.items c.receive-received.new.outbox.items old.loads
+          (λ s. after_message s (receive gr s (message_of gr c.args.m.now))) (ap grammar_of c.receive-received.ensures.grammar) (site_seen g.F.Facts old)
+          (shows_seen g.F.Facts old.space old.subs old.outbox.items old.loads)
+          (message_notes (grammar_of old.space.accepted.now.grammar) gr (site_seen g.F.Facts old) (message_of gr c.args.m.now) (ap grammar_of c.requires))
+          c.receive-received.result c.receive-received.ensures.site c.receive-received.ensures.err old.watched;
     }
