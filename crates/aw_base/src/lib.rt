@@ -3,6 +3,7 @@
 #![tactic(auto)]
 
 mod choice_fits;
+mod common;
 pub mod declared;
 mod homes;
 mod lines;

@@ -11,7 +11,8 @@ returns-clause-ready g c = ok-any c.reply_bytes-reply.result (c.in_ok-answered.e
 
 pub returns-clause-ok : goal.returns-clause-ok
 returns-clause-ok g c =
-    bytes-of (rules_of c.args.self.now.accepted.now.grammar c.args.self.now.typed.now) (frame_of c.args.frame.now) (g.P.NodeWorkspace.shows c.args.self.now.site) (g.P.NodeWorkspace.shows c.handle.new.site)
+    bytes-of (rules_of c.args.self.now.accepted.now.grammar c.args.self.now.typed.now) (frame_of c.args.frame.now)
+    (g.P.NodeWorkspace.shows c.args.self.now.site) (g.P.NodeWorkspace.shows c.handle.new.site)
     (response_of (grammar_of c.args.self.now.accepted.now.grammar) c.in_ok-answered.answered) c.reply_bytes-reply.result
     (rw c.grammar.ensures.value at c.reply_bytes-reply.ensures) c.in_ok-answered.ensures.answer refl refl
 

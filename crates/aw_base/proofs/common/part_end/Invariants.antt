@@ -1,5 +1,5 @@
 use Rattle.std.proofs.Common.{◌≤◌, ◌-◌, length}
-use Rattle.aw_base.proofs.node_reader.part_end.Given as goal
+use Rattle.aw_base.proofs.common.part_end.Given as goal
 
 abbrev pub invariant-loop-end : goal.invariant-loop-end
 invariant-loop-end l = record { first : l.fn.from ≤ l.end; within : l.end ≤ length l.text }

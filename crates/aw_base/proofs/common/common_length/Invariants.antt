@@ -1,5 +1,5 @@
 use Rattle.std.proofs.Common.{◌≡◌, take}
-use Rattle.aw_base.proofs.node_reader.common_length.Given as goal
+use Rattle.aw_base.proofs.common.common_length.Given as goal
 
 abbrev pub invariant-loop-i : goal.invariant-loop-i
 invariant-loop-i l = take l.i l.a ≡ take l.i l.b

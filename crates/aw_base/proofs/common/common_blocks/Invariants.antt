@@ -1,5 +1,5 @@
 use Rattle.std.proofs.Common.{◌≡◌, ◌≤◌, ◌-◌, take}
-use Rattle.aw_base.proofs.node_reader.common_blocks.Given as goal
+use Rattle.aw_base.proofs.common.common_blocks.Given as goal
 
 abbrev pub invariant-loop-at : goal.invariant-loop-at
 invariant-loop-at l = record { within : l.at ≤ l.most; same : take l.at l.a ≡ take l.at l.b }
