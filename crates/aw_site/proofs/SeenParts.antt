@@ -21,7 +21,8 @@ shows_seen f space subs outbox loads = record {
 pub held_seen : {F : Type 0} (f : Ghosts F) (space : Space F f) (subs : Subs) (loads : Bool) → (s : Site) × HoldsAs f space subs loads s
 held_seen f space subs loads = (parts_seen f space subs [] loads, (shows_seen f space subs [] loads).holds)
 
-pub seen_shown : {F : Type 0} (f : Ghosts F) (space : Space F f) (subs : Subs) (outbox : List Message) (loads : Bool) (s : Site) → Shows f space subs outbox loads s → parts_seen f space subs outbox loads ≡ s
+pub seen_shown : {F : Type 0} (f : Ghosts F) (space : Space F f) (subs : Subs) (outbox : List Message) (loads : Bool) (s : Site) →
+    Shows f space subs outbox loads s → parts_seen f space subs outbox loads ≡ s
 seen_shown f space subs outbox loads s h =
     let asked = fun_ext (λ r. sym (h.holds.asked r)) in
     let watches = fun_ext (λ r. fun_ext (λ role. sym (h.holds.watchers r role))) in

@@ -83,7 +83,8 @@ module _ {W : Type 0} (f : Ghosts W) (w x : World W f) (k : ℕ) (first : V.firs
       let n = nearer (words_of w.accepted.now.grammar) p accepted w.loads es may k (is_first v S) in
       let a = counted f w v S in
       let b = counted f x (V.deliver p v k).world (stepped v S) in
-      let t : bound_of p (map choice_of x.taken.items) ≡ bound_of p (map choice_of w.taken.items) = ap (bound_of p) (ap (λ (u : V.World). u.taken) (stepped v S) ∙ deliver_taken p v k ∙ ap (λ (u : V.World). u.taken) (sym S)) in
+      let t : bound_of p (map choice_of x.taken.items) ≡ bound_of p (map choice_of w.taken.items) =
+      ap (bound_of p) (ap (λ (u : V.World). u.taken) (stepped v S) ∙ deliver_taken p v k ∙ ap (λ (u : V.World). u.taken) (sym S)) in
       let s : bound_of p v.taken ≡ bound_of p (map choice_of w.taken.items) = ap (λ (u : V.World). bound_of p u.taken) (sym S) in
       omega (arith, n.0, n.1, a, b, t, s))
 

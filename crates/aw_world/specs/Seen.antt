@@ -62,7 +62,8 @@ pub record ChoseHere {W : Type 0} (f : Ghosts W) (g : R.Grammar) (new : W) (s : 
   pub messages : map (message_of g) new_messages ≡ map (message_of g) old_messages ++ sent_by x
 
 -- of these sites this one, at its place, took in a message so
-pub record GotAt {W : Type 0} (f : Ghosts W) (g : Grammar) (new : List W) (at : ℕ) (ss : List Site) (s : Site) (old_messages new_messages : List Message) (x : Received Reaction) (b : Bool) : Type 0 where
+pub record GotAt {W : Type 0} (f : Ghosts W) (g : Grammar) (new : List W) (at : ℕ) (ss : List Site) (s : Site)
+    (old_messages new_messages : List Message) (x : Received Reaction) (b : Bool) : Type 0 where
   pub fresh : b ≡ is_new x
   pub sites : map (λ w. f.seen w) new ≡ slice_set ss at (after_message s x)
   pub messages : map (message_of (grammar_of g)) new_messages ≡ map (message_of (grammar_of g)) old_messages ++ sent_for x

@@ -26,4 +26,5 @@ returns-clause-quiet g c =
     let homes = reached_homes f w.accepted.now w.loads w.sites.items w.messages w.marks.delivered.items w.taken.items w.reached g.met.W.Workspace.holds w.placed in
     let order = subst (λ ws. IfOk c.in_order.result (λ spots. AreAllInOrder f ws spots.items)) c.as_slice.ensures.value c.in_order.ensures in
     IfOk-weaker c.in_order.result _ (λ spots. first_open w ≡ None → HasRows w.accepted.now.grammar w.taken.items (length spots.items))
-    (λ spots h quiet. quiet_length f w quiet (length spots.items) (λ v S. order_length f g.met.W.Workspace.holds w.accepted.now.grammar w.sites.items w.placed homes v (ap (λ (u : V.World). u.sites) S) spots.items h)) order
+    (λ spots h quiet. quiet_length f w quiet (length spots.items) (λ v S. order_length f g.met.W.Workspace.holds w.accepted.now.grammar w.sites.items
+    w.placed homes v (ap (λ (u : V.World). u.sites) S) spots.items h)) order
