@@ -62,12 +62,12 @@ module _ (g : Grammar) where
   Watchable r role = (ref_ok g r && nat_lt role g.roles) ≡ true
 
   watched_cases : (a b c : Bool) (r x : Ref) (role other : ℕ) → ref_eq r x ≡ a → nat_eq role other ≡ b → ((a && b) || c) ≡ true → Watchable r role → (c ≡ true → Watchable x other) → Watchable x other
-  watched_cases true true c r x role other same as has ok before =
+  watched_cases true true c r x role other same equal has ok before =
       let p = ref_eq-true r x same in
-      let q = eqb-true role other as in
+      let q = eqb-true role other equal in
       (λ i. ref_ok g (sym p i) && nat_lt (sym q i) g.roles) ∙ ok
-  watched_cases true false c r x role other same as has ok before = before has
-  watched_cases false b c r x role other same as has ok before = before has
+  watched_cases true false c r x role other same equal has ok before = before has
+  watched_cases false b c r x role other same equal has ok before = before has
 
   watched_more : (watches : Ref → ℕ → Bool) (r : Ref) (role : ℕ) → WatchedValid g watches → Watchable r role → WatchedValid g (watches_too watches r role)
   watched_more watches r role before ok x other has = watched_cases (ref_eq r x) (nat_eq role other) (watches x other) r x role other refl refl has ok (before x other)
@@ -112,7 +112,8 @@ module _ (g : Grammar) (s : Site) where
       let (call, es) = and_parts (call_ok g c) (equations_ok g load) names in
       let t = record s { held = add_held (held_of c.node s.held) c s.held; equations = add_all s.equations load } in
       let rs = c.inherited ++ all_mentions load in
-      asked_more g s.asked (filter (is_wanted g t) (in_order rs)) before (wanted_ok t rs (refs_append g c.inherited (all_mentions load) (and_parts _ (refs_ok g c.inherited) call).1 (mentioned g load es)))
+      asked_more g s.asked (filter (is_wanted g t) (in_order rs)) before
+      (wanted_ok t rs (refs_append g c.inherited (all_mentions load) (and_parts _ (refs_ok g c.inherited) call).1 (mentioned g load es)))
   react_asks (Asks r from) names before = before
   react_asks (Tells e load) names before =
       let t = record s { equations = add_all s.equations (e ∷ load) } in
@@ -159,7 +160,8 @@ module _ {F : Type 0} (f : Ghosts F) (old new : Space F f) (subs subs' : Subs) (
   abbrev Is : Site → Type 0
   Is = Shows f new subs' outbox' loads
 
-  asked_shown : (s t : Site) → Was s → Is t → (AsksValid g s.asked → AsksValid g t.asked) → grammar_in f new ≡ g → AsksValid g (asked_in subs) → (r : Ref) → asked_in subs' r ≡ true → ref_ok (grammar_in f new) r ≡ true
+  asked_shown : (s t : Site) → Was s → Is t → (AsksValid g s.asked → AsksValid g t.asked) → grammar_in f new ≡ g → AsksValid g (asked_in subs) → (r : Ref)
+      → asked_in subs' r ≡ true → ref_ok (grammar_in f new) r ≡ true
   asked_shown s t was is keeps same before r has =
       ap (λ (x : Grammar). ref_ok x r) same ∙ keeps (λ x h. before x (sym (was.holds.asked x) ∙ h)) r (is.holds.asked r ∙ has)
 
@@ -190,7 +192,8 @@ module _ {F : Type 0} (f : Ghosts F) (old : Space F f) (subs : Subs) (outbox : L
       (choice_asks (grammar_of gr) s c (subst (MakesValid (grammar_of gr) c) (sym same) makes), choice_watched (grammar_of gr) s c)
 
   -- a choice
-  pub choice_notes : (h : program.Grammar) (c : Choice) → h ≡ gr → choice_ok (grammar_of h) c ≡ true → is_home (grammar_of h) old.role (node_of c) ≡ true → KeepsNotes (grammar_of gr) s (after_choice s (choose (grammar_of h) s c))
+  pub choice_notes : (h : program.Grammar) (c : Choice) → h ≡ gr → choice_ok (grammar_of h) c ≡ true → is_home (grammar_of h) old.role (node_of c) ≡ true
+      → KeepsNotes (grammar_of gr) s (after_choice s (choose (grammar_of h) s c))
   choice_notes h c same ok here =
       subst (λ (x : program.Grammar). KeepsNotes (grammar_of gr) s (after_choice s (choose (grammar_of x) s c))) (sym same)
       (choice_here c (subst (λ (x : program.Grammar). choice_ok (grammar_of x) c ≡ true) same ok) (subst (λ (x : program.Grammar). is_home (grammar_of x) old.role (node_of c) ≡ true) same here))
