@@ -1,31 +1,27 @@
 //! The events of a node, each on the disk before it is acknowledged.
-ghost use Rattle.std.specs.Prelude.{◌≡◌, ◌≢◌, ◌≤◌, ◌<◌, ◌+◌, ◌++◌, ◌∷◌, ◌^◌, ◌↔◌, [], ℕ, List, IsTrue, true, false, length, take, get_or, ◌==◌, IfOk, IfErr, OnOk, IsErrOf, MatchOption, vec_len, vec_capacity};
+ghost use Rattle.std.specs.Prelude.{◌≡◌, ◌≤◌, ◌<◌, ◌+◌, ◌++◌, ◌∷◌, ◌^◌, ◌↔◌, [], ℕ, List, IsTrue, true, false, length, take, get_or, ◌==◌, IfOk, IfErr, OnOk, IsErrOf, MatchOption, vec_len, vec_capacity};
 ghost use Rattle.aw_out.specs.Causes.{Rose};
 ghost use Rattle.aw_disk.specs.Disk.{LeavesOnly, Only};
 ghost use Rattle.aw_journal.specs.declared.journal.AppendFault.TheVariants.{NoMemory};
-ghost use Rattle.aw_journal.specs.Format.{u64_bytes, u16_bytes, head, front, has_head, events_of, end_of_head, record_of};
-ghost use Rattle.aw_journal.specs.Journal.{IsSettled, HasEventsOf, IsBeforeOrAfter, StandsAt, IsAround, StartsClosed, Quiet, behind_gate, end_after};
+ghost use Rattle.aw_journal.specs.Format.{head, front, has_head, events_of, end_of_head, record_of};
+ghost use Rattle.aw_journal.specs.Journal.{IsSettled, HasEventsOf, IsBeforeOrAfter, Quiet, end_after};
 ghost use Rattle.aw_journal.specs.Events.{AllEvents, EventInRange, EventSized, payload_of};
 ghost use Rattle.aw_journal.specs.EventView.{event_of, events_seen};
-ghost use Rattle.aw_journal.specs.Openings.{IsStartFault, KeepsFile, KeepsJournal, Reopens, Resumed};
+ghost use Rattle.aw_journal.specs.Openings.{KeepsFile, KeepsJournal, Reopens, Resumed};
 ghost use Rattle.aw_journal.specs.Reading.{HasRoom, OnlyReads, Reads};
-ghost use Rattle.aw_journal.specs.Opens.{HasThisHead, HasEvents, IsForeign, IsSameJournal, IsOldOrSame, AllOldOrAllSame, OldUntilSynced, BeginsClosed};
+ghost use Rattle.aw_journal.specs.Opens.{HasThisHead, IsForeign, IsSameJournal, IsOldOrSame, AllOldOrAllSame, OldUntilSynced};
 
+use crate::head::{Beginning, HEAD_FRONT, begins_open, goes_on, make_beginning, open_head, stands};
 use crate::lengths::payload_len;
 use crate::payload::{NodeEvent, record_bytes};
+use crate::putting::{put_head, put_whole};
 use crate::reads::{OpenFault, Reader, ask, begin, settle};
 use crate::scan::{RECORD_FRONT, Scanned, scan};
-use crate::steps::{end_at, write_synced};
+use crate::steps::end_at;
 use aw_disk::{Did, Disk};
 use aw_list::Text;
 use std::alloc::{AllocError, Global};
 use std::marker::Model;
-
-/// How many bytes stand before the text of a head: a gate, the role and the length of the text.
-const HEAD_FRONT: u64 = 11;
-
-/// How many bytes a head has beside its text, with its gate and the one behind it.
-const HEAD_AND_GATES: u64 = 12;
 
 #[derive(Clone, Copy, Debug, PartialEq, Eq)]
 pub enum AppendFault {
@@ -217,167 +213,6 @@ fn next_gate(gate: u64, len: u64, limit: u64) -> Option<u64>
     if next < limit { Some(next) } else { None }
 }
 
-/// Writes a record behind its gate, which is closed, and opens it.
-fn put_record<D: Disk>(disk: &mut D, gate: u64, b: &[u8]) -> Did
-    requires some { 0 < length b.now }
-    requires fits { gate + 1 + length b.now < 2 ^ 64 }
-    requires within { IsTrue (D.tells disk.old) → gate < length (D.seen disk.old) }
-    ensures done { result ≡ Did.Done → (before rest : List ℕ) (shut : ℕ) → StandsAt D.tells D.seen D.may_leave disk.old gate before rest shut
-        → StandsAt D.tells D.seen D.may_leave disk.new gate before (behind_gate b.now rest) 1 }
-    ensures any_moment { (before rest : List ℕ) (shut : ℕ) → StandsAt D.tells D.seen D.may_leave disk.old gate before rest shut
-        → LeavesOnly D.moment D.left_since disk.old disk.new (IsAround before shut (behind_gate b.now rest)) }
-    ensures tells { D.tells disk.new ≡ D.tells disk.old }
-    ensures never_falls { D.faults disk.old ≤ D.faults disk.new }
-    ensures cause { result ≡ Did.Failed → Rose (D.faults disk.old) (D.faults disk.new) }
-    ensures kept { result ≢ Did.Failed → D.faults disk.new ≡ D.faults disk.old }
-{
-    match write_synced(disk, gate + 1, b) {
-        Did::Done => write_synced(disk, gate, &[1]),
-        Did::Failed => Did::Failed,
-    }
-}
-
-/// Writes a whole record behind its gate, which is closed, and opens it; the record is dropped.
-fn put_whole<D: Disk>(disk: &mut D, gate: u64, bytes: Text) -> Did
-    requires some { 0 < length bytes }
-    requires fits { gate + 1 + length bytes < 2 ^ 64 }
-    requires within { IsTrue (D.tells disk.old) → gate < length (D.seen disk.old) }
-    ensures done { result ≡ Did.Done → (before rest : List ℕ) (shut : ℕ) → StandsAt D.tells D.seen D.may_leave disk.old gate before rest shut
-        → StandsAt D.tells D.seen D.may_leave disk.new gate before (behind_gate bytes rest) 1 }
-    ensures any_moment { (before rest : List ℕ) (shut : ℕ) → StandsAt D.tells D.seen D.may_leave disk.old gate before rest shut
-        → LeavesOnly D.moment D.left_since disk.old disk.new (IsAround before shut (behind_gate bytes rest)) }
-    ensures tells { D.tells disk.new ≡ D.tells disk.old }
-    ensures never_falls { D.faults disk.old ≤ D.faults disk.new }
-    ensures cause { result ≡ Did.Failed → Rose (D.faults disk.old) (D.faults disk.new) }
-    ensures kept { result ≢ Did.Failed → D.faults disk.new ≡ D.faults disk.old }
-{
-    put_record(disk, gate, bytes.as_slice())
-}
-
-fn length_bytes(n: u64) -> [u8; 8]
-    ensures { result ≡ u64_bytes n }
-{
-    n.to_be_bytes()
-}
-
-/// Whether a head stands.
-fn stands(bytes: &[u8]) -> bool
-    ensures { result ≡ has_head bytes.now }
-{
-    bytes.len() >= 2 && bytes[0] == 1
-}
-
-/// Whether a head of a text of this length and the gate behind it stand within the limit.
-fn has_place(len: usize, limit: u64) -> bool
-    ensures { IsTrue result ↔ end_of_head len ≤ limit }
-{
-    match (len as u64).checked_add(HEAD_AND_GATES) {
-        Some(end) => end <= limit,
-        None => false,
-    }
-}
-
-/// An open gate and the head behind it.
-fn open_head(alloc: Global, role: u16, text: &[u8]) -> Result<Vec<u8>, AllocError>
-    ensures { IfOk result (λ bytes. bytes.items ≡ 1 ∷ head role text.now) }
-{
-    let mut bytes = Vec::new(alloc);
-    bytes.push(1)?;
-    bytes.extend_from_slice(&role_bytes(role))?;
-    bytes.extend_from_slice(&length_bytes(text.len() as u64))?;
-    bytes.extend_from_slice(text)?;
-    Ok(bytes)
-}
-
-/// The head behind its gate, and a closed gate.
-fn head_behind(alloc: Global, role: u16, text: &[u8]) -> Result<Vec<u8>, AllocError>
-    ensures { IfOk result (λ bytes. bytes.items ≡ head role text.now ++ 0 ∷ []) }
-{
-    let mut bytes = Vec::new(alloc);
-    bytes.extend_from_slice(&role_bytes(role))?;
-    bytes.extend_from_slice(&length_bytes(text.len() as u64))?;
-    bytes.extend_from_slice(text)?;
-    bytes.push(0)?;
-    Ok(bytes)
-}
-
-fn role_bytes(role: u16) -> [u8; 2]
-    ensures { result ≡ u16_bytes role }
-{
-    role.to_be_bytes()
-}
-
-/// Closes the first byte of a file without a head that begins with these two bytes or has fewer, where it must be closed.
-fn close_first<D: Disk>(disk: &mut D, bytes: &[u8]) -> Did
-    requires headless { has_head bytes.now ≡ false }
-    requires read { IsTrue (D.tells disk.old) → bytes.now ≡ take 2 (D.seen disk.old) }
-    requires durable { IsTrue (D.tells disk.old) → Only (D.seen disk.old) (D.may_leave disk.old) }
-    ensures done { result ≡ Did.Done → IsTrue (D.tells disk.old) → StartsClosed D.tells D.seen D.may_leave disk.new }
-    ensures any_moment { IsTrue (D.tells disk.old) → LeavesOnly D.moment D.left_since disk.old disk.new (λ c. has_head c ≡ false) }
-    ensures tells { D.tells disk.new ≡ D.tells disk.old }
-    ensures never_falls { D.faults disk.old ≤ D.faults disk.new }
-    ensures cause { result ≡ Did.Failed → Rose (D.faults disk.old) (D.faults disk.new) }
-    ensures kept { result ≢ Did.Failed → D.faults disk.new ≡ D.faults disk.old }
-{
-    if must_close(bytes) {
-        write_synced(disk, 0, &[0])
-    } else {
-        settle(disk)
-    }
-}
-
-/// Whether the first byte of a file without a head is missing, or open.
-fn must_close(bytes: &[u8]) -> bool
-    ensures short { IsTrue result → length bytes.now ≤ 1 }
-    ensures closed { result ≡ false → has_head bytes.now ≡ false → BeginsClosed bytes.now }
-{
-    bytes.is_empty() || bytes.len() == 1 && bytes[0] == 1
-}
-
-/// What is ready before a journal is started.
-#[derive(Drop)]
-struct Beginning {
-    /// The text, kept.
-    text: Text,
-    /// The head behind its gate, and a closed gate.
-    head: Vec<u8>,
-}
-
-/// The head of a journal that is started, where it has its place within the limit.
-fn make_beginning(alloc: Global, role: u16, text: &[u8], limit: u64) -> Result<Beginning, OpenFault>
-    ensures text { IfOk result (λ b. b.text ≡ text.now) }
-    ensures bytes { IfOk result (λ b. b.head.items ≡ head role text.now ++ 0 ∷ []) }
-    ensures place { OnOk result (end_of_head (length text.now) ≤ limit) }
-    ensures fault { IfErr result (IsStartFault (length text.now) limit) }
-{
-    if !has_place(text.len(), limit) {
-        return Err(OpenFault::Full);
-    }
-    let kept = Text::from_bytes(alloc, text)?;
-    let head = head_behind(alloc, role, text)?;
-    Ok(Beginning { text: kept, head })
-}
-
-/// Puts a head behind the first gate of a file without one, which is closed before, and opens it; the bytes are dropped.
-fn put_head<D: Disk>(disk: &mut D, bytes: &[u8], fresh: Vec<u8>) -> Did
-    requires headless { has_head bytes.now ≡ false }
-    requires read { IsTrue (D.tells disk.old) → bytes.now ≡ take 2 (D.seen disk.old) }
-    requires durable { IsTrue (D.tells disk.old) → Only (D.seen disk.old) (D.may_leave disk.old) }
-    requires some { 0 < length fresh.items }
-    ensures done { result ≡ Did.Done → IsTrue (D.tells disk.old) → (rest : List ℕ) × StandsAt D.tells D.seen D.may_leave disk.new 0 [] (behind_gate fresh.items rest) 1 }
-    ensures any_moment { IsTrue (D.tells disk.old) → (role : ℕ) (text : List ℕ) → length (front role text []) < 2 ^ 64 → fresh.items ≡ head role text ++ 0 ∷ []
-        → LeavesOnly D.moment D.left_since disk.old disk.new (HasEvents role text []) }
-    ensures tells { D.tells disk.new ≡ D.tells disk.old }
-    ensures never_falls { D.faults disk.old ≤ D.faults disk.new }
-    ensures cause { result ≡ Did.Failed → Rose (D.faults disk.old) (D.faults disk.new) }
-    ensures kept { result ≢ Did.Failed → D.faults disk.new ≡ D.faults disk.old }
-{
-    match close_first(disk, bytes) {
-        Did::Done => put_record(disk, 0, &fresh),
-        Did::Failed => Did::Failed,
-    }
-}
-
 /// Starts a journal in a file without a head that begins with these two bytes or has fewer.
 fn start<D: Disk>(
     alloc: Global,
@@ -436,13 +271,6 @@ fn is_open<D: Disk>(disk: &mut D, reader: &mut Reader, gate: u64) -> Result<bool
 {
     ask(disk, reader, gate, 1)?;
     Ok(begins_open(&reader.asked))
-}
-
-/// Whether the bytes begin with an open gate.
-fn begins_open(bytes: &[u8]) -> bool
-    ensures { (gate : ℕ) (rest : List ℕ) → bytes.now ≡ gate ∷ rest → result ≡ (gate == 1) }
-{
-    !bytes.is_empty() && bytes[0] == 1
 }
 
 /// The text of a journal, kept; the events that stand behind its head; and whether the gate behind them is open.
@@ -565,14 +393,4 @@ fn read_and_open<D: Disk>(
 {
     let mut reader = begin(alloc, disk)?;
     open_file(alloc, disk, &mut reader, role, text, limit)
-}
-
-/// Whether the bytes begin with these and go on.
-fn goes_on(bytes: &[u8], front: &[u8]) -> bool
-    ensures { IsTrue result ↔ (byte : ℕ) × (rest : List ℕ) × (bytes.now ≡ front.now ++ byte ∷ rest) }
-{
-    if front.len() >= bytes.len() {
-        return false;
-    }
-    bytes.starts_with(front)
 }

@@ -2,10 +2,12 @@
 #![tactic(auto)]
 
 mod beginning;
+mod head;
 mod journal;
 mod lengths;
 mod payload;
 mod pieces;
+mod putting;
 mod reads;
 mod records;
 mod scan;

@@ -6,7 +6,7 @@ use Rattle.aw_journal.specs.Journal.{IsAround, StandsAt, behind_gate}
 use Rattle.aw_journal.specs.Opens.{HasEvents}
 use Rattle.aw_journal.proofs.Heads.{around_head, no_events}
 use Rattle.aw_journal.proofs.Moments.{runs_on, weaker}
-use Rattle.aw_journal.proofs.journal.put_head.Goals as goal
+use Rattle.aw_journal.proofs.putting.put_head.Goals as goal
 
 pub returns-in-Done-clause-done : goal.returns-in-Done-clause-done
 returns-in-Done-clause-done g c is told =

@@ -2,7 +2,7 @@ use Rattle.std.proofs.Common.{length, inl, inr, refl}
 use Rattle.aw_journal.specs.Journal.{IsAround, behind_gate}
 use Rattle.aw_journal.proofs.Moments.{weaker, runs_on}
 use Rattle.aw_journal.proofs.Gates.{staged, staged_outcome, gate_outcome, opened_gate}
-use Rattle.aw_journal.proofs.journal.put_record.Goals as goal
+use Rattle.aw_journal.proofs.putting.put_record.Goals as goal
 
 pub returns-in-Failed-clause-any_moment : goal.returns-in-Failed-clause-any_moment
 returns-in-Failed-clause-any_moment g c before rest shut stands =
