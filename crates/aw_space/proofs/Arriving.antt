@@ -9,7 +9,7 @@ use Rattle.aw_store.proofs.NameLemmas.{all_named-grown}
 use Rattle.aw_node_list.specs.declared.held.Held.{Held}
 use Rattle.aw_node_list.specs.InOrder.{IsInOrder, insert_in, insert_all_in, done_at}
 use Rattle.aw_space.specs.Sound.{all_inherited, AreHome, IsSound}
-use Rattle.aw_space.specs.Taken.{Belong, MayBeHeld, MayBeTaken}
+use Rattle.aw_space.specs.Taken.{MayBeHeld, MayBeTaken}
 use Rattle.aw_space.specs.Valid.{IsValid}
 use Rattle.aw_space.proofs.KeptSound.{named_inserted, named_all_inserted, inherited_done}
 

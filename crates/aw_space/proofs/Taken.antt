@@ -1,5 +1,5 @@
 -- A space after a taken rule and after a start, through its view.
-use Rattle.std.proofs.Common.{◌≡◌, ℕ, true, List, [], ◌∷◌, ◌++◌, map, Some, None, slice_get, ap, ◌∙◌}
+use Rattle.std.proofs.Common.{◌≡◌, ℕ, true, List, [], ◌∷◌, ◌++◌, map, Some, slice_get, ap, ◌∙◌}
 use Rattle.std.proofs.lemmas.List.{map-append}
 use Rattle.aw_term.specs.Names.{root}
 use Rattle.aw_term.specs.Rules.{Ground, Grammar, sort_of}

@@ -18,7 +18,7 @@ use Rattle.aw_space.specs.Spaces.{taken_in}
 use Rattle.aw_space.specs.SpaceView.{space_of}
 use Rattle.aw_space.specs.Valid.{IsValid}
 use Rattle.aw_space.specs.declared.placing.Placing.{Placing}
-use Rattle.aw_space.proofs.Called.{grown_sound, sound_missing, valid_missing, view_missing}
+use Rattle.aw_space.proofs.Called.{sound_missing, valid_missing, view_missing}
 use Rattle.aw_space.proofs.Staying.{facts_same, facts_told, nodes_same, nodes_called}
 use Rattle.aw_space.proofs.Told.{told_done, told_valid}
 

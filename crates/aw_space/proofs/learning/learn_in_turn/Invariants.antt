@@ -1,4 +1,4 @@
-use Rattle.std.proofs.Common.{◌≡◌, ◌+◌, ◌≤◌, List, None, true, map, Contains}
+use Rattle.std.proofs.Common.{◌≡◌, ◌+◌, ◌≤◌, None, true, map, Contains}
 use Rattle.std.specs.Vec.Iter.{into_iter_items}
 use Rattle.aw_grammar.specs.GrammarOf.{grammar_of}
 use Rattle.aw_node_list.specs.Row.{Row}

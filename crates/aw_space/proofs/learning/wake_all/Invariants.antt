@@ -1,4 +1,4 @@
-use Rattle.std.proofs.Common.{◌+◌, ◌≤◌, ℕ, List, take, drop}
+use Rattle.std.proofs.Common.{◌+◌, ◌≤◌, ℕ, take, drop}
 use Rattle.std.specs.Prelude.{sum_by}
 use Rattle.aw_term.specs.Names.{Ref}
 use Rattle.aw_grammar.specs.GrammarOf.{grammar_of}

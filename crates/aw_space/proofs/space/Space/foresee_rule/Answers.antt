@@ -1,5 +1,4 @@
-use Rattle.std.proofs.Common.{◌≡◌, ◌∙◌, map, sym, subst, true}
-use Rattle.std.specs.Prelude.{IfOk}
+use Rattle.std.proofs.Common.{◌≡◌, map, sym, subst, true}
 use Rattle.std.proofs.lemmas.Result.{IfOk-weaker}
 use Rattle.aw_term.specs.Choices.{Develop}
 use Rattle.aw_term.specs.Views.{ground_of}
@@ -8,7 +7,6 @@ use Rattle.aw_base.specs.ChoiceFits.{choice_ok}
 use Rattle.aw_space.specs.InSpace.{outcome_here}
 use Rattle.aw_space.specs.Weighing.{Weighs, HasRoomFor}
 use Rattle.aw_space.specs.declared.outcome.Outcome.{Outcome}
-use Rattle.aw_space.proofs.Foretelling.{asked_rule}
 use Rattle.aw_space.proofs.space.Space.foresee_rule.Goals as goal
 
 pub outcome_of-requires-clause-room : goal.outcome_of-requires-clause-room

@@ -5,7 +5,7 @@ use Rattle.aw_term.specs.Names.{Ref}
 use Rattle.aw_grammar.specs.GrammarOf.{grammar_of}
 use Rattle.aw_store.specs.EquationView.{equation_of}
 use Rattle.aw_store.proofs.NameLemmas.{all_named-grown}
-use Rattle.aw_node_list.specs.InOrder.{IsInOrder, insert_all_in, done_at}
+use Rattle.aw_node_list.specs.InOrder.{IsInOrder, insert_all_in}
 use Rattle.aw_node_list.specs.HeldView.{all_of}
 use Rattle.aw_node_list.proofs.InOrderLemmas.{up_of, far}
 use Rattle.aw_node_list.proofs.HeldViews.{ordered_done}

@@ -1,4 +1,4 @@
-use Rattle.std.proofs.Common.{◌+◌, ◌≤◌, ◌∙◌, List, map, ap, sym, subst}
+use Rattle.std.proofs.Common.{◌+◌, ◌≤◌, ◌∙◌, List, map, sym, subst}
 use Rattle.aw_grammar.specs.GrammarOf.{grammar_of}
 use Rattle.aw_store.specs.EquationView.{equation_of}
 use Rattle.aw_store.specs.declared.equation.Equation.{Equation}

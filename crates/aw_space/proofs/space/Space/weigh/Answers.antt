@@ -12,6 +12,7 @@ use Rattle.aw_node_list.proofs.HeldViews.{held_nowhere}
 use Rattle.aw_law_sites.specs.Joint.{by_held, outcome_in}
 use Rattle.aw_law_sites.specs.ValidNames.{takes_as}
 use Rattle.aw_standing.specs.Items.{StandsAt}
+use Rattle.aw_standing.specs.KeptStates.{IsNumbered}
 use Rattle.aw_space.specs.Weighing.{Weighs, HasRoomFor}
 use Rattle.aw_space.proofs.Standing.{node_here, takes_here, weighs_here}
 use Rattle.aw_space.proofs.space.Space.weigh.Goals as goal
@@ -29,15 +30,16 @@ weigh_at-requires-clause-declared g c = subst (λ (x : Grammar). is_some (slice_
 pub weigh_at-requires-clause-named : goal.weigh_at-requires-clause-named
 weigh_at-requires-clause-named g c =
     let old = c.args.self.now in
-    let here = record { place = c.in-Some.place; numbered = c.number_at-number.ensures; there = c.at.ensures } in
+    let here : IsNumbered old.held c.number_at-number.result c.at.result.now = record { place = c.in-Some.place; numbered = c.number_at-number.ensures; there = c.at.ensures } in
     c.slots.ensures (grammar_of old.accepted.now.grammar) old.held c.at.result.now (g.F.Facts.map old.facts) (g.F.Facts.names old.facts) here old.stands
 
 pub weigh_at-requires-clause-stands : goal.weigh_at-requires-clause-stands
 weigh_at-requires-clause-stands g c =
     let old = c.args.self.now in
     let h = c.at.result.now in
+    let here : IsNumbered old.held c.number_at-number.result h = record { place = c.in-Some.place; numbered = c.number_at-number.ensures; there = c.at.ensures } in
     subst (λ x. StandsAt (grammar_of x) (g.F.Facts.map old.facts) h c.args.rule c.in_ok-stands-in-Some.stands) (sym c.grammar.ensures.value)
-    (c.in_ok-stands-in-Some.ensures (grammar_of old.accepted.now.grammar) old.held h (record { place = c.in-Some.place; numbered = c.number_at-number.ensures; there = c.at.ensures }) old.stands)
+    (c.in_ok-stands-in-Some.ensures (grammar_of old.accepted.now.grammar) old.held h here old.stands)
 
 pub returns-in_ok-stands-in-Some-clause-value : goal.returns-in_ok-stands-in-Some-clause-value
 returns-in_ok-stands-in-Some-clause-value g c =
