@@ -1,4 +1,4 @@
-use Rattle.std.proofs.Common.{◌+◌, [], ◌∷◌, ◌++◌, length, map, ap, sym, ◌∙◌, arith, inl, inr}
+use Rattle.std.proofs.Common.{[], ◌∷◌, ◌++◌, length, map, ap, sym, ◌∙◌, arith, inl, inr}
 use Rattle.std.specs.Prelude.{slice_get}
 use Rattle.std.proofs.lemmas.List.{length-append, map-append}
 use Rattle.aw_grammar.specs.GrammarOf.{grammar_of}

@@ -5,6 +5,7 @@ use Rattle.aw_accept.specs.declared.accepted.Accepted.{Accepted}
 use Rattle.aw_law_sites.specs.Worlds.{count_set}
 use Rattle.aw_law_sites.specs.Bounds.{bound_of}
 use Rattle.aw_world.specs.Shown.{Shows}
+use Rattle.aw_list.proofs.Fronts.{on_err_held as on_err}
 use Rattle.aw_world.proofs.Settles.{fewer_left, one_more, settled_on, settled_whole}
 use Rattle.aw_world.proofs.settling.settle.Goals as goal
 
@@ -39,3 +40,8 @@ returns-clause-settled g c = λ v s.
     let i = c.loop-number.invariant in
     settled_whole g.W.Workspace w (grammar_of c.args.world.now.accepted.now.grammar) (ap (λ (a : Accepted). grammar_of a.grammar) i.accepted) (count_set c.args.world.now.marks.delivered.items) v
     (sym c.quiet.ensures ∙ c.in_default.is) (i.settled v s)
+
+pub returns-in_err-deliver_one-clause-some : goal.returns-in_err-deliver_one-clause-some
+returns-in_err-deliver_one-clause-some g c =
+    let made = count_set c.loop-number.world.marks.delivered.items - count_set c.args.world.now.marks.delivered.items in
+    on_err c.from_residual.result (λ v s. (made, c.in_err-deliver_one.ensures.err _ (c.loop-number.invariant.settled v s)))
