@@ -64,7 +64,7 @@ class Terminal:
     def run(self) -> None:
         """Shows the open tasks until `q` is typed."""
         while True:
-            tasks = ordered(wanted(list(self.desk.open().values()), self.words, "", False, self.desk.wording), "old")
+            tasks = ordered(wanted(list(self.desk.open().values()), self.words, "", False, self.desk.wording), "old", self.desk.records.since)
             self.screen(tasks)
             said = self.ask("Number, n, d, + or -, /words, q: ").strip()
             if said == "q":
