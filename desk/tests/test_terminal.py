@@ -95,10 +95,10 @@ def test_a_list_with_values_and_a_case_by_its_number(company: Make, screens: Cal
     made = company(TYPED)
     made.system.start_post()
     made.system.choose("start claim 1")
-    made.system.choose('choose claim#1 open_claim {88012, "\x1b[31mstorm\\nroof", 12000, "DK50 0040"}')
+    assert made.system.choose('choose claim#1 open_claim {88012, "\u009b31mstorm\\nroof", 12000, "DK50 0040"}') == "taken"
     until(lambda: tasks_of(made.book("tasks", made.journal("assessor"))), "the letter did not come")
     screen = screens(["/usr/bin/python3", str(TOP / "desk" / "aw_desk_tty"), str(made.system.spec), made.journal("assessor"), str(made.folder / "tty")])
-    screen.wait("Assessment, claim 1 (88012, \\x1b[31mstorm, 12000): grant, deny, inspect")
+    screen.wait("Assessment, claim 1 (88012, \\x9b31mstorm, 12000): grant, deny, inspect")
     screen.type("c", "Number of the case:")
     screen.type("1", "Assessment, claim 1: still open")
     assert "Asked: 12000" in screen.shown()
