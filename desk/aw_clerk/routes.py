@@ -1,6 +1,7 @@
 """What each page of a desk shows and does. No page needs a script; each works by keyboard alone."""
 from __future__ import annotations
 
+import hashlib
 import secrets
 from datetime import timedelta
 from pathlib import Path
@@ -29,13 +30,18 @@ def application(pages: Pages, secret: bytes) -> flask.Flask:
     """The pages as an application of WSGI."""
     app = flask.Flask("aw_desk", template_folder=str(pages.templates), static_folder=None)
     app.config.update(SECRET_KEY=secret, MAX_CONTENT_LENGTH=LONGEST_BODY, MAX_FORM_MEMORY_SIZE=LONGEST_BODY, SESSION_COOKIE_HTTPONLY=True, SESSION_COOKIE_SAMESITE="Strict",
-                      SESSION_COOKIE_NAME="aw_desk", PERMANENT_SESSION_LIFETIME=timedelta(hours=HOURS_OF_SESSION))
+                      SESSION_COOKIE_NAME=cookie_of(secret), PERMANENT_SESSION_LIFETIME=timedelta(hours=HOURS_OF_SESSION))
     app.jinja_env.trim_blocks = app.jinja_env.lstrip_blocks = True
     app.jinja_env.globals.update(human=human, titled=titled)
     guards(app, pages)
     reading(app, pages)
     deciding(app, pages)
     return app
+
+
+def cookie_of(secret: bytes) -> str:
+    """The name of a desk's cookie. A browser has one store of cookies for all ports of a machine, so each desk has a name of its own."""
+    return "aw_desk_" + hashlib.sha256(secret).hexdigest()[:12]
 
 
 def guards(app: flask.Flask, pages: Pages) -> None:

@@ -239,6 +239,22 @@ def test_two_clerks(company: Make, tmp_path: Path) -> None:
     assert "Sign in" in ada.get("/").text(), "who is taken out of the file is out"
 
 
+def test_two_desks_in_one_browser(company: Make) -> None:
+    """A browser has the same cookies at each port of a machine: a form of one desk can be sent after a look at another."""
+    made = company(TYPED)
+    front, assessor = made.open_desk("front"), made.open_desk("assessor")
+    assessor.cookies = front.cookies
+    front.get("/begin")
+    assessor.get("/")
+    front.press("Begin claim", Number_of_the_case="1")
+    assert "Claim 1 has begun." in good(front)
+    assessor.get("/")
+    front.follow("Open claim")
+    assessor.get("/decided")
+    front.press("Go on", Policy="1", What="w", Asked="2", Number="n")
+    assert "send this?" in good(front) and len(front.cookies) == 2
+
+
 def test_a_race_of_two_choices(company: Make, tmp_path: Path) -> None:
     """Both were sent while the task was open: the second is told that it came too late, and both are noted as what they were."""
     made = company(TYPED)
