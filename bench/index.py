@@ -25,7 +25,7 @@ HEAD = """# The crates
 
 Written by `bench/index.py` from `crates.txt` and the page of each crate, which says what the crate promises, why it is built so, what it does not promise, and how it was attacked. Groups are in the order in which a newcomer walks.
 
-*Stands on* names the highest crates that a crate uses, and so all below them. *Lines* are those of source, definitions and proofs. *Wrong bodies* are those that the checker has to refuse ([PLANTED.md](PLANTED.md)): tried by the gate + by hand. *Run by* are the nearest tables above a crate, programs whose stored run is compared to the byte; `itself` is such a program.
+*Stands on* names the highest crates that a crate uses, and so all below them. *Lines* are those of source / definitions / proofs. [*Wrong*](PLANTED.md) are wrong bodies that the checker has to refuse: tried by the gate + by hand. *Run by* are the nearest tables above a crate; `itself` is one.
 """
 
 
@@ -94,7 +94,7 @@ def row(crate: str) -> str:
     by_gate, by_hand = len(planted.edits_of(crate, "must-fail")), len(planted.edits_of(crate))
     bodies = f"{by_gate} + {by_hand}" if by_gate else str(by_hand or "")
     tables = "itself" if (CRATES / crate / "stdout").is_file() else ", ".join(it.removeprefix("table_") for it in tables_of(crate))
-    cells = [f"[{crate}](../crates/{crate}/README.md)", purpose(crate), " ".join(stands_on(crate)), " / ".join(f"{it:,}" for it in sizes), bodies, tables]
+    cells = [f"[{crate}](../crates/{crate})", purpose(crate), " ".join(stands_on(crate)), " / ".join(f"{it:,}" for it in sizes), bodies, tables]
     return "| " + " | ".join(cells) + " |"
 
 
@@ -104,7 +104,7 @@ def page() -> str:
     total = [0, 0, 0]
     for name, what, crates in groups():
         parts.append(f"## {name.capitalize()}\n\n{what[0].upper()}{what[1:]}.\n")
-        parts.append("| Crate | What it is for | Stands on | Lines | Wrong bodies | Run by |\n|---|---|---|---|---|---|\n" + "\n".join(map(row, crates)) + "\n")
+        parts.append("| Crate | What it is for | Stands on | Lines | Wrong | Run by |\n|---|---|---|---|---|---|\n" + "\n".join(map(row, crates)) + "\n")
         for crate in crates:
             for i, it in enumerate((("src", ".rt"), ("specs", ".antt"), ("proofs", ".antt"))):
                 total[i] += lines_in(crate, *it)
