@@ -284,14 +284,11 @@ def page() -> tuple[str, list[str]]:
     faults = [f"{it} is found nowhere" for it in faults] + [f"aw_run::run has no clause {it}" for it in HEADLINE if it not in found]
     order = [*(it for it in HEADLINE if it in found), *(it for it in found if it not in HEADLINE)]
     seen: set[Name] = set()
-    rows, parts = [], []
+    rows = []
     for name in order:
-        mine, kit, _ = found[name]
-        new = mine - seen
-        seen |= new
-        rows.append(f"| `{name}` | {len(files_of(mine))} | {len(mine)} | {lines_of(mine):,} | {lines_of(new):,} | {len(kit)} |")
-        if new:
-            parts.append(f"### `{name}`\n\n{listed(new)}\n")
+        mine = found[name][0]
+        rows.append(f"| `{name}` | {len(files_of(mine))} | {lines_of(mine):,} | {lines_of(mine - seen):,} |")
+        seen |= mine
     headline = set().union(*(found[it][0] for it in HEADLINE if it in found))
     total = lines_of(headline)
     if total > MOST:
@@ -303,12 +300,13 @@ def page() -> tuple[str, list[str]]:
         f"Of these, {lines_of(spelling):,} lines say how bytes spell a specification and a schedule, and {lines_of(headline - spelling):,} what is said of them. "
         f"All clauses of `run` together reach {len(seen)} definitions of {lines_of(seen):,} lines in {len(files_of(seen))} files.\n",
         "## How much for each clause\n",
-        "*New* are the lines that no clause above reaches. *Words* are those of the kit's library that are named on the way.\n",
-        "| Clause | Files | Definitions | Lines | New | Words |\n|---|---|---|---|---|---|\n" + "\n".join(rows) + "\n",
+        "*New* are the lines that no clause above reaches.\n",
+        "| Clause | Files | Lines | New |\n|---|---|---|---|\n" + "\n".join(rows) + "\n",
         "## Which definitions\n",
-        "Below each clause stand the files with the definitions that no clause above reaches, and how many lines these have; a file without a folder is in the crate's `specs/`. "
+        "The files, and how many lines of each; a file without a folder is in the crate's `specs/`. "
         "`bench/reach.py --names CLAUSE` lists all definitions that a clause reaches, by name.\n",
-        *parts,
+        f"### The headline\n\n{listed(headline)}\n",
+        f"### What the other clauses reach beyond it\n\n{listed(seen - headline)}\n",
     ]
     return "\n".join(text), faults
 
