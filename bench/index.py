@@ -249,7 +249,7 @@ def lost_citations() -> list[str]:
     faults = []
     for line in (TOP / "docs" / "CLAIMS.md").read_text(encoding="utf-8").split("\n"):
         cells, crate = re.split(r"(?<!\\) \| ", line.strip("| ")), ""
-        for said in re.findall(r"`([^`]+)`", cells[1]) if line.startswith("| ") and len(cells) == 3 else []:
+        for said in re.findall(r"`([^`]+)`", cells[1]) if line.startswith("| ") and len(cells) == 2 else []:
             path = re.fullmatch(r"(?:(\w+)::)?([\w:]+)", said)
             if not path:
                 continue
