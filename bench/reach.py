@@ -26,6 +26,9 @@ START = CRATES / "aw_run" / "src" / "running.rt"
 HEADLINE = ["arrived", "enabled", "started", "stays", "merged", "answers", "any_order", "settles", "bounded", "acyclic", "no_circle"]
 MOST = 2500
 
+# Clauses that reach fewer lines have no row.
+SHOWN = 200
+
 # The crates whose definitions say how bytes spell a specification and a schedule.
 SPELLING = ["aw_lex", "aw_spelling", "aw_term_reader", "aw_name_index", "aw_grammar", "aw_face", "aw_spec", "aw_sched"]
 
@@ -287,7 +290,8 @@ def page() -> tuple[str, list[str]]:
     rows = []
     for name in order:
         mine = found[name][0]
-        rows.append(f"| `{name}` | {len(files_of(mine))} | {lines_of(mine):,} | {lines_of(mine - seen):,} |")
+        if lines_of(mine) >= SHOWN:
+            rows.append(f"| `{name}` | {len(files_of(mine))} | {lines_of(mine):,} | {lines_of(mine - seen):,} |")
         seen |= mine
     headline = set().union(*(found[it][0] for it in HEADLINE if it in found))
     total = lines_of(headline)
@@ -300,7 +304,7 @@ def page() -> tuple[str, list[str]]:
         f"Of these, {lines_of(spelling):,} lines say how bytes spell a specification and a schedule, and {lines_of(headline - spelling):,} what is said of them. "
         f"All clauses of `run` together reach {len(seen)} definitions of {lines_of(seen):,} lines in {len(files_of(seen))} files.\n",
         "## How much for each clause\n",
-        "*New* are the lines that no clause above reaches.\n",
+        f"*New* are the lines that no clause above reaches. A clause that is not listed, on faults and on who touches what, reaches fewer than {SHOWN} lines.\n",
         "| Clause | Files | Lines | New |\n|---|---|---|---|\n" + "\n".join(rows) + "\n",
         "## Which definitions\n",
         "The files, and how many lines of each; a file without a folder is in the crate's `specs/`. "
