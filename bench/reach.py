@@ -271,13 +271,15 @@ def in_words(names: set[Name]) -> str:
 
 
 def listed(names: set[Name]) -> str:
-    """Returns a line for each crate of these definitions, with its files and how many lines of each."""
-    crates: dict[str, list[str]] = {}
-    for file, here in files_of(names).items():
-        crate, folder, *inside = file.relative_to(CRATES).parts
-        short = "/".join(inside).removesuffix(".antt") if folder == "specs" else "/".join([folder, *inside])
-        crates.setdefault(crate, []).append(f"{short} {lines_of(here):,}")
-    return "\n".join(f"- [{crate}](../crates/{crate}): {', '.join(files)}" for crate, files in crates.items())
+    """Returns a line for each crate of these definitions, with how many lines they have and their files."""
+    crates: dict[str, set[Name]] = {}
+    for it in sorted(names):
+        crates.setdefault(it.file.relative_to(CRATES).parts[0], set()).add(it)
+    rows = []
+    for crate, here in crates.items():
+        files = ["/".join(it.relative_to(CRATES / crate).parts).removeprefix("specs/").removesuffix(".antt") for it in files_of(here)]
+        rows.append(f"- [{crate}](../crates/{crate}), {lines_of(here):,}: {', '.join(files)}")
+    return "\n".join(rows)
 
 
 def page() -> tuple[str, list[str]]:
@@ -307,7 +309,7 @@ def page() -> tuple[str, list[str]]:
         f"*New* are the lines that no clause above reaches. A clause that is not listed, on faults and on who touches what, reaches fewer than {SHOWN} lines.\n",
         "| Clause | Files | Lines | New |\n|---|---|---|---|\n" + "\n".join(rows) + "\n",
         "## Which definitions\n",
-        "The files, and how many lines of each; a file without a folder is in the crate's `specs/`. "
+        "How many lines of each crate, and their files; a file without a folder is in the crate's `specs/`. "
         "`bench/reach.py --names CLAUSE` lists all definitions that a clause reaches, by name.\n",
         f"### The headline\n\n{listed(headline)}\n",
         f"### What the other clauses reach beyond it\n\n{listed(seen - headline)}\n",
