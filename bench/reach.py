@@ -12,6 +12,7 @@ from __future__ import annotations
 
 import argparse
 import re
+import signal
 import sys
 from functools import cache
 from pathlib import Path
@@ -335,6 +336,7 @@ def main() -> int:
     words = reader.parse_args()
     checks = words.check
     if words.names:
+        signal.signal(signal.SIGPIPE, signal.SIG_DFL)
         asked = clauses()
         if words.names not in asked:
             print(f"reach.py: aw_run::run has no clause {words.names}; its clauses are {', '.join(asked)}", file=sys.stderr)
