@@ -109,14 +109,15 @@ def taken(output: str) -> None:
     assert answers and set(answers) == {"taken"} and "\nartifacts " in output, output
 
 
-@pytest.mark.parametrize("case", cases("Answers to choices and deliveries"), ids=lambda case: case[0])
-def test_answers(case: tuple[str, str]) -> None:
-    """The quoted lines come of the schedule."""
-    base = base_of("Answers to choices and deliveries")
-    ((first, behind),) = boxes(case[1])
-    output = ask(["replay"], (base + "schedule\n" + first).encode()).output
-    quoted = re.findall(r"`([a-z]+ [^`]*)`", behind.split(". ")[0])
-    assert quoted and all(line in output.split("\n") for line in quoted), output
+def test_answers() -> None:
+    """Each line of the table comes of the schedule, in its order."""
+    part = "Answers to choices and deliveries"
+    ((_, text),) = cases(part)
+    ((schedule, behind),) = boxes(text)
+    output = ask(["replay"], (base_of(part) + "schedule\n" + schedule).encode()).output.split("\n")
+    shown = re.findall(r"^\| `([^`]+)` \|", behind, re.MULTILINE)
+    assert len(shown) > 8 and shown == [line for line in output if line in shown], output
+    assert all(line in shown for line in output if not re.match(r".*: (taken|new)$|sent |settled |$", line)), output
 
 
 def commands(text: str, folder: Path) -> list[tuple[str, str]]:
