@@ -163,13 +163,9 @@ def reading(app: flask.Flask, pages: Pages) -> None:
     def whole(case: str) -> Answer:
         if not desk.journals or not desk.is_case(case):
             flask.abort(404)
-        try:
-            tasks = list(desk.whole(case).values())
-        except NotSaid as error:
-            app.logger.error("%s", error)
-            return pages.render("trouble.html", 503, title="This case can't be shown at all offices now", words="Its part at this office can: see the case at this desk.")
+        tasks, unread = desk.whole(case)
         found, then = pages.some(tasks, behind())
-        return pages.render("whole.html", case=desk.wording.task(case), name=case, tasks=found, then=then)
+        return pages.render("whole.html", case=desk.wording.task(case), name=case, tasks=found, then=then, unread=unread)
 
     @app.get("/decided")
     def decided() -> Answer:
