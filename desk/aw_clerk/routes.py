@@ -149,7 +149,7 @@ def reading(app: flask.Flask, pages: Pages) -> None:
             if not desk.spread.is_here(number) or desk.case(case):
                 return flask.redirect(flask.url_for("case", case=case), 303)
             fault = "This office knows nothing of %s." % desk.wording.task(case)
-        return pages.render("find.html", 404 if fault else 200, sorts=sorts, sort=sort, number=digits, fault=fault)
+        return pages.render("find.html", 200, sorts=sorts, sort=sort, number=digits, fault=fault)
 
     @app.get("/case/<case>")
     def case(case: str) -> Answer:
