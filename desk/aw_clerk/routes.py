@@ -149,7 +149,7 @@ def reading(app: flask.Flask, pages: Pages) -> None:
             if not desk.spread.is_here(number) or desk.case(case):
                 return flask.redirect(flask.url_for("case", case=case), 303)
             fault = "This office knows nothing of %s." % desk.wording.task(case)
-        return pages.render("find.html", 404 if fault else 200, sorts=sorts, sort=sort, number=digits, fault=fault)
+        return pages.render("find.html", 200, sorts=sorts, sort=sort, number=digits, fault=fault)
 
     @app.get("/case/<case>")
     def case(case: str) -> Answer:
@@ -163,13 +163,9 @@ def reading(app: flask.Flask, pages: Pages) -> None:
     def whole(case: str) -> Answer:
         if not desk.journals or not desk.is_case(case):
             flask.abort(404)
-        try:
-            tasks = list(desk.whole(case).values())
-        except NotSaid as error:
-            app.logger.error("%s", error)
-            return pages.render("trouble.html", 503, title="This case can't be shown at all offices now", words="Its part at this office can: see the case at this desk.")
+        tasks, unread = desk.whole(case)
         found, then = pages.some(tasks, behind())
-        return pages.render("whole.html", case=desk.wording.task(case), name=case, tasks=found, then=then)
+        return pages.render("whole.html", case=desk.wording.task(case), name=case, tasks=found, then=then, unread=unread)
 
     @app.get("/decided")
     def decided() -> Answer:

@@ -83,6 +83,28 @@ def test_a_claim_by_clicks(company: Make) -> None:
         assert not made.log(role).replace("aw_desk: the desk of %s is at http://127.0.0.1:%d/\n" % (role, made.port(role)), "")
 
 
+def test_a_case_whole(company: Make) -> None:
+    """An office that may see all journals is shown each task of a case, under the one that it came from, as its own office knows it."""
+    made = company(TYPED)
+    made.system.start_post()
+    front = made.open_desk("front", "--journals", *map(made.journal, made.roles))
+    assert "No office has begun this case." in front.get("/whole/claim%231").text()
+    for line in ("start claim 1", 'choose claim#1 open_claim {88012, "storm, roof", 12000, "DK50 0040"}'):
+        assert made.system.choose(line) == "taken"
+    settled(made)
+    assert made.system.choose("choose claim#1/open_claim.1 inspect") == "taken"
+    front.get("/case/claim%231")
+    front.follow("The case at all offices")
+    good(front)
+    rows = {name: task for role in made.roles for name, task in tasks_of(made.book("tasks", "--case", "claim#1", made.journal(role))).items()}
+    sections = front.page.source.split('<section class="task">')[1:]
+    assert [section.split("<h2>")[1].split("</h2>")[0] for section in sections] == ["Claim 1", "Assessment, claim 1", "Survey, claim 1", "Decision, claim 1", "Payment, claim 1"]
+    assert len(rows) == 5
+    for section, name in zip(sections, sorted(rows)):
+        assert ("Decided: <strong>" in section) == (not rows[name].is_open)
+    assert sections[1].count("storm, roof") == 1 and "Assessor. Decided: <strong>Inspect" in sections[1] and "Payments. Still open." in sections[4]
+
+
 NESTED = """role shop
 con empty 0
 con item 3

@@ -26,7 +26,7 @@ class Told:
     def __init__(self, folder: Path, monkeypatch: pytest.MonkeyPatch) -> None:
         self.tasks: list[str] = []
         self.said = {"spec": CLAIM_TEXT.splitlines(), "check": ["sound assessor events 0 bytes 700 behind 0 assessor.journal"]}
-        monkeypatch.setattr(book, "said", lambda *words: self.tasks if words[0] in ("tasks", "cases") else self.said.get(words[0], []))
+        monkeypatch.setattr(book, "said", lambda *words: self.tasks if words[0] == "tasks" else self.said.get(words[0], []))
         monkeypatch.setattr(book.Follower, "lines", lambda _: [line for line in self.tasks if line.startswith("item ") or line.split(" ", 2)[1] == "open"])
         (folder / "form.aw").write_bytes(b"% \xff a comment\n" + CLAIM_TEXT.encode())
         self.desk = Desk(str(folder / "form.aw"), "assessor.journal", folder, None, ["assessor.journal"])
@@ -117,8 +117,7 @@ def test_a_case_is_found_by_its_number(told: Told) -> None:
     assert told.browser.get("/find?number=7").headers["Location"] == "/case/claim%237" and told.browser.get("/find?sort=claim&number=007").status_code == 303
     told.tasks = []
     for number, words in (("8", "This office knows nothing of claim 8."), ("x", "Enter a whole number"), ("9" * 30, "Enter a whole number"), ("-1", "Enter a whole number")):
-        answer = told.browser.get("/find?number=" + number)
-        assert answer.status_code == 404 and words in answer.get_data(as_text=True), number
+        assert words in told.page("/find?number=" + number), number
     for query in ("", "?number=", "?sort=assessment&number=7", "?sort=%3Cb%3E&number=7", "?sort=%ff"):
         assert "<b>" not in told.page("/find" + query)
 
@@ -188,13 +187,18 @@ def test_what_is_wrong_is_said_first_and_has_the_focus(told: Told) -> None:
     assert answer.status_code == 422 and 'role="alert">Nothing was sent: Amount. Enter a whole number in digits' in text and text.count(" autofocus") == 1
 
 
-def test_a_book_without_cases(told: Told, monkeypatch: pytest.MonkeyPatch) -> None:
-    """Where whole cases can't be told, everything else can."""
+def test_a_case_where_journals_cannot_be_read(told: Told, monkeypatch: pytest.MonkeyPatch) -> None:
+    """The others are shown, and that some are missing."""
     told.tasks = assessment("claim#1/open_claim.1", "w")
-    told.page("/case/claim%231")
+    told.desk.journals.append("front.journal")
 
-    def fails(*words: str) -> list[str]:
-        raise book.NotSaid("error: unrecognized subcommand 'cases'")
-    monkeypatch.setattr(book, "said", fails)
-    answer = told.browser.get("/whole/claim%231")
-    assert answer.status_code == 503 and "can&#39;t be shown at all offices now" in answer.get_data(as_text=True).replace("'", "&#39;")
+    def some(*words: str) -> list[str]:
+        if words[-1] == "front.journal":
+            raise book.NotSaid("front.journal: no such file")
+        return told.tasks
+    monkeypatch.setattr(book, "said", some)
+    text = told.page("/whole/claim%231")
+    assert "The journal of one office can't be read now" in html.unescape(text) and "Assessment, claim 1" in text
+    told.desk.journals[:] = ["front.journal"] * 2
+    text = told.page("/whole/claim%231")
+    assert "The journals of 2 offices can't be read now" in html.unescape(text) and "No office has begun" not in text
