@@ -107,6 +107,7 @@ def test_a_case_whole(company: Make) -> None:
 
 NESTED = """role shop
 con empty 0
+% What it is, how many of it, and what more.
 con item 3
 sort order shop 0 1
 start order
@@ -129,7 +130,7 @@ def test_values_within_values(company: Make) -> None:
     shop.press("Go on")
     assert "Nothing was sent: What. Choose one." in good(shop) and shop.page.status == 422
     shop.press("Go on", What="item")
-    assert shop.page.status == 200 and "What: item" in good(shop)
+    assert shop.page.status == 200 and "What: item What it is, how many of it, and what more." in good(shop)
     shop.press("Go on", Part_1="lamp <1>", Part_2="many", Goods="item")
     assert shop.page.status == 422 and "Enter a whole number in digits, as 120." in good(shop)
     shop.press("Go on", Part_2="2", Goods="empty")
