@@ -154,8 +154,9 @@ class Office:
             self.process.wait()
             self.process = None
 
-    def ask(self, kind: int, payloads: list[bytes], patience: float = 120) -> list[tuple[int, bytes]] | None:
-        """The replies to some requests in one session, as many as came; nothing where nobody listens."""
+    def ask(self, kind: int, payloads: list[bytes], crash: float | None = None, patience: float = 120) -> list[tuple[int, bytes]] | None:
+        """The replies to some requests in one session, as many as came; nothing where nobody listens. With a number for `crash` the node is killed so
+        many seconds after they were sent."""
         try:
             peer = socket.create_connection(("127.0.0.1", self.port), timeout=patience)
         except OSError:
@@ -164,6 +165,9 @@ class Office:
         data = b"".join(nodes.frame(kind, payload) for payload in payloads)
         sender = threading.Thread(target=nodes.send_all, args=(peer, data), daemon=True)
         sender.start()
+        if crash is not None:
+            time.sleep(crash)
+            self.kill()
         got = nodes.receive_all(peer)
         peer.close()
         sender.join(10)
@@ -264,9 +268,9 @@ class World:
         for one in (*self.posts, *self.offices.values()):
             one.kill()
 
-    def choose(self, role: str, steps: list[Step]) -> tuple[list[Step], list[Step], list[Step]]:
+    def choose(self, role: str, steps: list[Step], crash: float | None = None) -> tuple[list[Step], list[Step], list[Step]]:
         """Asks for some choices in one session: those that are done, those that have to wait, and those that got no reply."""
-        replies = self.offices[role].ask(CHOOSE, [one.data for one in steps])
+        replies = self.offices[role].ask(CHOOSE, [one.data for one in steps], crash)
         done: list[Step] = []
         late: list[Step] = []
         for one, (kind, payload) in zip(steps, replies or []):
@@ -390,9 +394,10 @@ class Joining:
             if moved:
                 replayed = self.replay(order)
                 numbers = {words: int(number) for number, words in re.findall(r"(?m)^sent (\d+) (.*)$", replayed)}
-        return order, [line for role, lines in part.items() for line in lines[at[role]:]], replayed
+        heads = [lines[at[role]] for role, lines in part.items() if at[role] < len(lines)]
+        return order, heads + [line for role, lines in part.items() for line in lines[at[role] + 1:]], replayed
 
-    def join(self, part: Part, chosen: list[str], items: Iterable[str] | None) -> Joined:
+    def join(self, part: Part, chosen: list[str], items: list[str]) -> Joined:
         """Some cases: their journals, the choices that were answered, and what the worklists have of them."""
         order, left, replayed = self.order(part)
         found = Joined(len(order), 0, 0, [], left)
@@ -403,46 +408,107 @@ class Joining:
             found.wrong.append("a joined event is answered %s" % sorted(set(answers[:len(order)]) - {"taken", "new"})[:3])
         if set(answers[len(order):]) - {"again"}:
             found.wrong.append("a letter that no journal has is answered %s" % sorted(set(answers[len(order):]) - {"again"})[:3])
-        undivided = artifacts(ran([self.binary, "plain"], self.text + "schedule\n" + "".join(line + "\n" for line in chosen)).stdout)
+        if left:
+            found.wrong.append("%d events have no place in the joined schedule; the first are: %s" % (len(left), "; ".join(left[:3])))
+        self.same(found, replayed, chosen, items)
+        return found
+
+    def again(self, chosen: list[str], items: list[str]) -> Joined:
+        """The choices of some cases, with nothing late."""
+        found = Joined()
+        replayed = self.replay([line + "\nsettle" for line in chosen], "".join("list %s\n" % role for role in self.roles))
+        self.same(found, replayed, chosen, items)
+        return found
+
+    def undivided(self, chosen: list[str]) -> str:
+        """The artifacts of the undivided run."""
+        return artifacts(ran([self.binary, "plain"], self.text + "schedule\n" + "".join(line + "\n" for line in chosen)).stdout)
+
+    def same(self, found: Joined, replayed: str, chosen: list[str], items: list[str]) -> None:
+        """Where a replay has other artifacts than the undivided run, or other worklists than the nodes."""
+        undivided = self.undivided(chosen)
         found.rows = undivided.count("\n") - 2
         if not undivided or artifacts(replayed) != undivided:
             found.wrong.append("the artifacts are not those of the undivided run")
-        if items is not None and sorted(items) != sorted(line for role in self.roles for line in listed(replayed, role)):
+        if sorted(items) != sorted(line for role in self.roles for line in listed(replayed, role)):
             found.wrong.append("the worklists are not those that the nodes told")
+
+
+def named(cases: Iterable[int]) -> re.Pattern[str]:
+    """What finds the lines of some cases."""
+    some = "|".join(map(str, sorted(cases)))
+    return re.compile(r"^start [a-z0-9_]+ (?:%s)$|^item [^#]*#(?:%s)\b|^(?:choose|to [a-z0-9_]+ (?:call|ask|tell)) [^#]*#(?:%s)\b" % (some, some, some) if some else r"(?!)")
+
+
+def parted(part: Part, cases: set[int]) -> tuple[Part, Part]:
+    """The events of some cases, and those of the others."""
+    which = named(cases)
+    return ({role: [line for line in lines if which.search(line)] for role, lines in part.items()},
+            {role: [line for line in lines if not which.search(line)] for role, lines in part.items()})
+
+
+@dataclass
+class Whole:
+    """All that is joined: the offices, how many cases at a time, which are forged and which lost choices once, and what the worklists have."""
+
+    book: str
+    world: World
+    group: int
+    jobs: int
+    forged: set[int]
+    touched: set[int]
+    items: list[str]
+
+    def joined(self) -> Joined:
+        """Each group of cases. The forged cases are joined one by one, and what has no place there is told. Of cases that lost choices once, letters of
+        the time before may be spelled otherwise than those that came again, so of them what the choices give is held to what the nodes tell."""
+        groups, shown, total = events_of(self.book, self.world, self.group), self.rows(), Joined()
+        work = Joining(self.world.binary, self.world.text, self.world.names.roles)
+        with ThreadPoolExecutor(self.jobs) as pool:
+            for found in pool.map(lambda number: self.one(work, number, groups[number], shown.pop(number, None)), sorted(groups)):
+                total.add(found)
+        missing = {case // self.group for case in self.world.lines} - set(groups)
+        if missing:
+            total.wrong.append("no journal has anything of %d groups of cases" % len(missing))
+        return total
+
+    def rows(self) -> dict[int, list[str]]:
+        """The tasks that `aw_book tasks` tells of all journals, by groups; nothing where the program does not tell them."""
+        found: dict[int, list[str]] = {}
+        for office in self.world.offices.values() if tells(self.book, "tasks") else ():
+            told = subprocess.Popen([self.book, "tasks", str(office.journal)], stdout=subprocess.PIPE, text=True, errors="surrogateescape")
+            assert told.stdout is not None
+            with told.stdout as lines:
+                for line in lines:
+                    if not line.startswith("item ") and not re.match(r"\S+ open \(", line):
+                        found.setdefault(int(CASE.search(line)[1]) // self.group, []).append(line[:-1])  # type: ignore[index]
+            if told.wait():
+                raise Sorry("aw_book tasks ended with status %d for the journal of %s; `aw_book check` tells how it stands." % (told.returncode, office.role))
         return found
 
-
-def joined(book: str, world: World, group: int, jobs: int, without: set[int], items: list[str]) -> Joined:
-    """All cases but some, joined in groups of so many; of a case that is left out, what has no place in the joined schedule."""
-    groups, work = events_of(book, world, group), Joining(world.binary, world.text, world.names.roles)
-    chosen: dict[int, list[str]] = {}
-    for case, lines in sorted(world.lines.items()):
-        if case not in without:
-            chosen.setdefault(case // group, []).extend(lines)
-    shown: dict[int, list[str]] = {}
-    for item in items:
-        shown.setdefault(int(CASE.search(item)[1]) // group, []).append(item)  # type: ignore[index]
-
-    def one(number: int) -> Joined:
-        apart = {case for case in without if case // group == number}
-        named = re.compile("|".join(r"(?:^start [a-z0-9_]+ %d$|#%d\b)" % (case, case) for case in apart) or r"(?!)")
-        part = {role: [line for line in lines if not named.search(line)] for role, lines in groups[number].items()}
-        found = work.join(part, chosen.get(number, []), [item for item in shown.get(number, []) if not named.search(item)])
-        if found.left:
-            found.wrong.append("%d events have no place in the joined schedule, as %s" % (len(found.left), found.left[0]))
-        for case in sorted(apart):
-            named = re.compile(r"^start [a-z0-9_]+ %d$|#%d\b" % (case, case))
-            found.left += work.order({role: [line for line in lines if named.search(line)] for role, lines in groups[number].items()})[1]
+    def one(self, work: Joining, number: int, part: Part, rows: list[str] | None) -> Joined:
+        """A group of cases."""
+        within = range(number * self.group, (number + 1) * self.group)
+        forged, touched = self.forged & set(within), self.touched & set(within) - self.forged
+        apart, rest = parted(part, forged | touched)
+        sound = [line for case in within if case not in forged | touched for line in self.world.lines.get(case, [])]
+        found = work.join(rest, sound, self.shown(set(within) - forged - touched))
+        if touched:
+            again = [line for case in sorted(touched) for line in self.world.lines.get(case, [])]
+            found.add(work.again(again, self.shown(touched)))
+        for case in sorted(forged):
+            found.left += work.order(parted(apart, {case})[0])[1]
+        if rows is not None:
+            which = named(forged)
+            undivided = work.undivided([line for case in within if case not in forged for line in self.world.lines.get(case, [])]).split("\n")[2:-1]
+            told = [row for row in rows if not which.search("choose " + row)]
+            if sorted(told) != sorted(row for row in undivided if not re.match(r"\S+ open \(", row)):
+                found.wrong.append("the tasks that aw_book tells are not those of the undivided run, in the cases from %d on" % within[0])
         return found
 
-    total = Joined()
-    with ThreadPoolExecutor(jobs) as pool:
-        for found in pool.map(one, sorted(groups)):
-            total.add(found)
-    missing = set(chosen) - set(groups)
-    if missing:
-        total.wrong.append("no journal has anything of %d groups of cases" % len(missing))
-    return total
+    def shown(self, cases: set[int]) -> list[str]:
+        """What the worklists have of some cases."""
+        return [item for item in self.items if int(CASE.search(item)[1]) in cases]  # type: ignore[index]
 
 
 def words_of(names: Names, letter: bytes) -> str:

@@ -8,14 +8,15 @@ number. While it goes on:
 - a journal is copied, and later put back in the place of its journal, as an operator does whose disk is lost; the choices of the time between are
   asked again, and all letters come once more (the posts' places are taken away);
 - the form gets a rule more in the middle (aw_carry_over, all journals);
-- on each of 30 days a letter is forged: one that contradicts what its receiver knows, or one that comes before the true one;
+- on each of 30 days a letter is forged: one that contradicts what its receiver knows, one that comes before the true one, or one after which the
+  true one is not even asked for;
 - with --desks a claim of each day is opened and decided by clicks in chromium, drawn too.
 
 At the end each choice that was answered `taken` is in its journal, in order; each letter of each outbox, brought once more, is known, and none is
 in a journal twice; the journals joined give the artifacts of `aw plain` of these choices, and the worklists that the nodes tell. The journal that
 was put back is found by `aw_book join` where the program has it, else by `aw_book check --begins-with` of a later copy, else by fewer bytes in
-`aw_book check`. A forged letter is found by its reply, or where the true one is refused and the post tells it, and has no place in the joined
-journals.
+`aw_book check`. A forged letter is found by its reply, or where the true one is refused and the post tells it, and by `aw_book join`; it has no
+place in the joined journals.
 
 Prints a figure for each. Ends with 0 where all held, 1 where something did not, 2 where it could not run. Takes the minutes it is given, and a few
 more to look at the end; a small one is --cases 200 --minutes 1 --crash 5.
@@ -39,6 +40,9 @@ sys.dont_write_bytecode = True
 import living
 import nodes
 from client import Trouble
+
+sys.path[:0] = [str(living.TOP / "offices"), str(living.TOP / "forms")]
+from aw_offices import frames
 from living import CONFLICT, NEW, Sorry, Step, World, message, ran, takes, tells
 from nodes import PUSH
 
@@ -86,7 +90,7 @@ rule put_by {shelf} : filing(v, p)<kept(shelf)>
 """
 MORE = "rule flat_rate {amount} : assessment(damage(policy, what, asked))<granted(amount)>\n"
 DAYS, AT_ONCE, PAUSE, GROUP = 30, 64, 0.3, 400
-COPIED, PUT_BACK, CHANGED = 0.25, 0.4, 0.5
+COPIED, PUT_BACK, CHANGED = 0.3, 0.35, 0.5
 WHAT = ("storm, roof", "scratched door", "water in the cellar", 'a \\"stone\\", he says', "fire")
 
 
@@ -114,7 +118,8 @@ class Crashes(threading.Thread):
     def __init__(self, world: World, every: float, draw: random.Random) -> None:
         super().__init__(daemon=True)
         self.world, self.every, self.draw, self.ending = world, every, draw, threading.Event()
-        self.nodes = self.posts = 0
+        self.nodes = self.posts = self.in_hand = 0
+        self.due: set[str] = set()
         self.longest, self.trouble = 0.0, ""
 
     def run(self) -> None:
@@ -127,6 +132,9 @@ class Crashes(threading.Thread):
 
     def one(self) -> None:
         hit = self.draw.choice([*self.world.offices.values(), *self.world.posts])
+        if isinstance(hit, living.Office) and self.draw.random() < 0.5:
+            self.due.add(hit.role)
+            return
         hit.kill()
         time.sleep(self.draw.random())
         hit.start()
@@ -135,6 +143,17 @@ class Crashes(threading.Thread):
             self.longest = max(self.longest, hit.reopened)
         else:
             self.posts += 1
+
+    def choose(self, role: str, steps: list[Step]) -> tuple[list[Step], list[Step], list[Step]]:
+        """Asks for choices, and kills the node with some in hand where a crash of it is due."""
+        if role not in self.due:
+            return self.world.choose(role, steps)
+        with self.world.lock:
+            self.due.discard(role)
+            found = self.world.choose(role, steps, self.draw.random() * 0.004)
+            self.world.offices[role].start()
+            self.in_hand += 1
+            return found
 
 
 class Month:
@@ -154,6 +173,9 @@ class Month:
         self.told_back, self.refusals = "", list[str]()
         self.contradictions = 0
         self.early: dict[int, str] = {}
+        self.waiting: list[int] = []
+        self.told, self.touched = set[int](), set[int]()
+        self.looked = 0.0
         self.finished: list[int] = []
         self.crashes = Crashes(self.world, given.crash, random.Random(given.seed + 1))
         self.desks: Desks | None = None
@@ -187,7 +209,7 @@ class Month:
             some = [queue.popleft() for _ in range(min(AT_ONCE, len(queue)))]
             if some:
                 asked = True
-                done, late, rest = self.world.choose(role, some)
+                done, late, rest = self.crashes.choose(role, some)
                 queue.extendleft(reversed(rest))
                 self.later.extend((now + PAUSE, step) for step in late)
                 for step in done:
@@ -199,6 +221,9 @@ class Month:
         if step.redone:
             return
         if step.case in self.early and " open_claim " in step.line:
+            if step.case % 2:
+                self.waiting.append(step.case)
+                return
             self.forge_early(step.case)
         self.next(step.case)
 
@@ -230,6 +255,7 @@ class Month:
             self.forge()
             if self.desks is not None:
                 self.desks.day(self)
+        self.forge_waiting()
         if not self.copied and part >= COPIED:
             self.copy()
         if self.copied and not self.put_back and part >= PUT_BACK:
@@ -257,7 +283,9 @@ class Month:
             again = [step for steps in (world.taken, world.found) for step in steps[self.copied] if step.data not in kept]
             for steps in (world.taken, world.found):
                 steps[self.copied] = [step for step in steps[self.copied] if step.data in kept]
-            order = {event[1:]: at for at, event in enumerate(nodes.events(newest.read_bytes())[0]) if event[0] == 1}
+            lost = nodes.events(newest.read_bytes())[0]
+            order = {event[1:]: at for at, event in enumerate(lost) if event[0] == 1}
+            self.touched = {frames.choice(event[1:]) if event[0] == 1 else frames.message(event[1:]).node.case for event in lost[-self.put_back:]}
             for step in sorted(again, key=lambda step: -order.get(step.data, 0)):
                 step.redone, step.in_hand = True, False
                 self.queue[self.copied].appendleft(step)
@@ -297,12 +325,11 @@ class Month:
         self.changed = True
 
     def forge(self) -> None:
-        """A forged letter: on even days one that contradicts what was said, on odd days one that comes before the true one."""
-        if self.day % 2 and self.begun < self.given.cases:
+        """A forged letter: one that contradicts what was said, one that comes before the true one, or one after which the true one is not asked for."""
+        if self.day % 3 and self.begun < self.given.cases:
             case = self.begun + 1
-            lines = plan(self.draw, case, False)[:2] + ['choose claim#%d/open_claim.1 deny {"no"}' % case]
             self.early[case] = ""
-            self.begin(lines)
+            self.begin(plan(self.draw, case, False)[:2] + ['choose claim#%d/open_claim.1 deny {"no"}' % case])
         elif self.finished and not self.asked_again():
             name = "claim#%d" % self.draw.choice(self.finished[-1000:])
             self.push("payments", "to payments call %s/open_claim.2 (%s:p6, %s/open_claim.3:r1)" % (name, name, name), CONFLICT)
@@ -316,6 +343,17 @@ class Month:
         words = "to payments tell claim#%d/open_claim.1:r1 = granted(claim#%d/open_claim.1:p1) with claim#%d/open_claim.1:p1 = 99999" % (case, case, case)
         self.early[case] = words
         self.push("payments", words, NEW)
+
+    def forge_waiting(self) -> None:
+        """The same where the task has come, so that the true letter is on its way once there is one."""
+        if self.waiting and time.monotonic() > self.looked + PAUSE:
+            self.looked = time.monotonic()
+            items = " ".join(self.world.offices["payments"].items())
+            for case in [case for case in self.waiting if "claim#%d/open_claim.2 " % case in items]:
+                self.waiting.remove(case)
+                self.forge_early(case)
+                self.told.add(case)
+                self.next(case)
 
     def push(self, role: str, words: str, wanted: int) -> None:
         """Pushes a letter until it is replied to."""
@@ -348,7 +386,7 @@ class Month:
         world.stop()
         self.events = sum(before)
         wrong += world.choices_differ()
-        self.joined = living.joined(self.book, world, GROUP, self.given.jobs, set(self.early), items)
+        self.joined = living.Whole(self.book, world, GROUP, self.given.jobs, set(self.early), self.touched, items).joined()
         wrong += self.joined.wrong + list(self.besides_differ())
         return wrong
 
@@ -365,7 +403,7 @@ class Month:
         wrong = []
         told = " ".join(line for post in self.world.posts for line in post.told() if ": refused, " in line)
         for case, words in self.early.items():
-            if "claim#%d/" % case not in told:
+            if case in self.told and "claim#%d/" % case not in told:
                 wrong.append("no post told that the forged letter of claim %d stands against the true one" % case)
             if words not in self.joined.left:
                 wrong.append("the forged letter of claim %d has a place in the joined journals" % case)
@@ -384,9 +422,9 @@ class Month:
         taken = sum(map(len, self.world.taken.values()))
         found = sum(map(len, self.world.found.values()))
         rows = [("cases begun", self.begun), ("choices answered taken", taken), ("choices found taken behind a crash", found),
-                ("nodes killed", self.crashes.nodes), ("posts killed", self.crashes.posts), ("longest opening of a node, s", "%.1f" % self.crashes.longest),
+                ("nodes killed", self.crashes.nodes), ("nodes killed with choices in hand", self.crashes.in_hand), ("posts killed", self.crashes.posts), ("longest opening of a node, s", "%.1f" % self.crashes.longest),
                 ("journal put back", "%s, %d events; found by %s; %d choices asked again" % (self.copied, self.put_back, self.told_back or "nothing", self.lost)),
-                ("form changed", "yes" if self.changed else "no"), ("forged letters refused at once", self.contradictions), ("forged letters before the true one", len(self.early))]
+                ("form changed", "yes" if self.changed else "no"), ("forged letters refused at once", self.contradictions), ("forged letters before the true one", "%d, of which the post told %d" % (len(self.early), len(self.told)))]
         if self.desks is not None:
             rows.append(("choices by clicks", self.desks.clicked))
         if hasattr(self, "joined"):
