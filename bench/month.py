@@ -33,12 +33,13 @@ import sys
 import tempfile
 import threading
 import time
-from collections import deque
 from pathlib import Path
 
 sys.dont_write_bytecode = True
+import joining
 import living
 import nodes
+from clerks import PAUSE, Clerks
 from client import Trouble
 
 sys.path[:0] = [str(living.TOP / "offices"), str(living.TOP / "forms")]
@@ -89,7 +90,7 @@ rule file_away : payment(account(number), denied(why))<unpaid>
 rule put_by {shelf} : filing(v, p)<kept(shelf)>
 """
 MORE = "rule flat_rate {amount} : assessment(damage(policy, what, asked))<granted(amount)>\n"
-DAYS, AT_ONCE, PAUSE, GROUP = 30, 64, 0.3, 400
+DAYS, GROUP = 30, 400
 COPIED, PUT_BACK, CHANGED = 0.3, 0.35, 0.5
 WHAT = ("storm, roof", "scratched door", "water in the cellar", 'a \\"stone\\", he says', "fire")
 
@@ -156,17 +157,14 @@ class Crashes(threading.Thread):
             return found
 
 
-class Month:
+class Month(Clerks):
     """The offices, the cases that go through them, and what happens besides."""
 
     def __init__(self, given: argparse.Namespace, binary: str, book: str, folder: Path) -> None:
+        super().__init__(World(binary, FORM, folder, 5))
         self.given, self.book = given, book
         self.draw = random.Random(given.seed)
-        self.world = World(binary, FORM, folder, 5)
-        self.queue: dict[str, deque[Step]] = {role: deque() for role in self.world.names.roles}
-        self.later: deque[tuple[float, Step]] = deque()
-        self.plans: dict[int, deque[str]] = {}
-        self.begun = self.open = self.day = 0
+        self.day = 0
         self.changed = False
         self.copied = ""
         self.put_back = self.lost = 0
@@ -175,46 +173,20 @@ class Month:
         self.early: dict[int, str] = {}
         self.waiting: list[int] = []
         self.told, self.touched = set[int](), set[int]()
-        self.looked = 0.0
+        self.looked, self.gone = 0.0, 0
         self.finished: list[int] = []
         self.crashes = Crashes(self.world, given.crash, random.Random(given.seed + 1))
         self.desks: Desks | None = None
 
     # the cases
-    def begin(self, lines: list[str] | None = None) -> int:
-        """Begins a case with these choices, or with choices that are drawn."""
-        self.begun += 1
-        self.open += 1
-        self.plans[self.begun] = deque(lines if lines is not None else plan(self.draw, self.begun, self.changed))
-        self.next(self.begun)
-        return self.begun
+    def lines_of(self, case: int) -> list[str]:
+        return plan(self.draw, case, self.changed)
 
-    def next(self, case: int) -> None:
-        """Hands the next choice of a case to its office."""
-        if not self.plans[case]:
-            del self.plans[case]
-            self.open -= 1
-            self.finished += [case] if case not in self.early else []
-            return
-        step = living.step(self.world.text, self.world.names, case, self.plans[case].popleft())
-        self.queue[step.role].append(step)
+    def closed(self, case: int) -> None:
+        self.finished += [case] if case not in self.early else []
 
-    def work(self) -> bool:
-        """Asks each office for some of what is due there; whether anything was asked."""
-        now, asked = time.monotonic(), False
-        while self.later and self.later[0][0] <= now:
-            step = self.later.popleft()[1]
-            self.queue[step.role].append(step)
-        for role, queue in self.queue.items():
-            some = [queue.popleft() for _ in range(min(AT_ONCE, len(queue)))]
-            if some:
-                asked = True
-                done, late, rest = self.crashes.choose(role, some)
-                queue.extendleft(reversed(rest))
-                self.later.extend((now + PAUSE, step) for step in late)
-                for step in done:
-                    self.done(step)
-        return asked
+    def choose(self, role: str, steps: list[Step]) -> tuple[list[Step], list[Step], list[Step]]:
+        return self.crashes.choose(role, steps)
 
     def done(self, step: Step) -> None:
         """A choice was taken."""
@@ -231,7 +203,7 @@ class Month:
         """The month, until every case is closed."""
         began, whole = time.monotonic(), max(self.given.minutes * 60.0, 1.0)
         self.crashes.start()
-        while self.begun < self.given.cases or self.open or any(self.queue.values()) or self.later:
+        while self.begun < self.given.cases or self.busy():
             due = min(self.given.cases, int(self.given.cases * (time.monotonic() - began) / whole) + 1)
             while self.begun < due and self.open < 2000:
                 self.begin()
@@ -286,6 +258,11 @@ class Month:
             lost = nodes.events(newest.read_bytes())[0]
             order = {event[1:]: at for at, event in enumerate(lost) if event[0] == 1}
             self.touched = {frames.choice(event[1:]) if event[0] == 1 else frames.message(event[1:]).node.case for event in lost[-self.put_back:]}
+            gone = {event[1:] for event in lost[-self.put_back:] if event[0] == 2}
+            for case in [case for case, words in self.early.items() if words and message(world.names, words) in gone]:
+                del self.early[case]
+                self.told.discard(case)
+                self.gone += 1
             for step in sorted(again, key=lambda step: -order.get(step.data, 0)):
                 step.redone, step.in_hand = True, False
                 self.queue[self.copied].appendleft(step)
@@ -386,7 +363,7 @@ class Month:
         world.stop()
         self.events = sum(before)
         wrong += world.choices_differ()
-        self.joined = living.Whole(self.book, world, GROUP, self.given.jobs, set(self.early), self.touched, items).joined()
+        self.joined = joining.Whole(self.book, world, GROUP, self.given.jobs, set(self.early), self.touched, items).joined()
         wrong += self.joined.wrong + list(self.besides_differ())
         return wrong
 
@@ -424,7 +401,7 @@ class Month:
         rows = [("cases begun", self.begun), ("choices answered taken", taken), ("choices found taken behind a crash", found),
                 ("nodes killed", self.crashes.nodes), ("nodes killed with choices in hand", self.crashes.in_hand), ("posts killed", self.crashes.posts), ("longest opening of a node, s", "%.1f" % self.crashes.longest),
                 ("journal put back", "%s, %d events; found by %s; %d choices asked again" % (self.copied, self.put_back, self.told_back or "nothing", self.lost)),
-                ("form changed", "yes" if self.changed else "no"), ("forged letters refused at once", self.contradictions), ("forged letters before the true one", "%d, of which the post told %d" % (len(self.early), len(self.told)))]
+                ("form changed", "yes" if self.changed else "no"), ("forged letters refused at once", self.contradictions), ("forged letters before the true one", "%d, of which the post told %d; %d more went with the journal that was put back" % (len(self.early), len(self.told), self.gone))]
         if self.desks is not None:
             rows.append(("choices by clicks", self.desks.clicked))
         if hasattr(self, "joined"):
