@@ -5,8 +5,8 @@ A month of an office in an hour: five offices of claims, each a kept node in a p
 number. While it goes on:
 
 - a node or a post that is drawn is killed with SIGKILL, every minute, and started again;
-- a journal is copied, and later put back in the place of its journal, as an operator does whose disk is lost; the choices of the time between are
-  asked again, and all letters come once more (the posts' places are taken away);
+- the journals are copied, and a day and a half later one copy is put in the place of its journal, as an operator does whose disk is lost; the
+  choices of the time between are asked again, and all letters come once more (the posts' places are taken away);
 - the form gets a rule more in the middle (aw_carry_over, all journals);
 - on each of 30 days a letter is forged: one that contradicts what its receiver knows, one that comes before the true one, or one after which the
   true one is not even asked for;
@@ -232,23 +232,33 @@ class Month(Clerks):
             self.copy()
         if self.copied and not self.put_back and part >= PUT_BACK:
             self.back()
-        if not self.changed and part >= CHANGED:
+        if not self.changed and self.put_back and part >= CHANGED:
             self.change()
 
     # what happens besides
     def copy(self) -> None:
-        """Copies the journal of an office, while its node runs."""
-        self.copied = self.draw.choice(self.world.names.roles)
-        shutil.copyfile(self.world.offices[self.copied].journal, self.world.folder / "copy")
+        """Copies each journal, while the nodes run."""
+        for role, office in self.world.offices.items():
+            shutil.copyfile(office.journal, self.world.folder / (role + ".copy"))
+        self.copied = "all"
+
+    def since(self, role: str) -> int:
+        """How many events an office has that its copy has not."""
+        copy = (self.world.folder / (role + ".copy")).read_bytes()
+        return len(nodes.events(self.world.offices[role].journal.read_bytes())[0]) - len(nodes.events(copy)[0])
 
     def back(self) -> None:
-        """The copy takes the place of its journal, and is found; what was chosen since is asked again."""
-        world, office = self.world, self.world.offices[self.copied]
+        """The copy of a journal takes its place, and is found; what was chosen since is asked again."""
+        world = self.world
         with world.lock:
             world.stop()
-            newest = world.folder / "newest"
+            later = [role for role in world.offices if self.since(role)]
+            if not later:
+                return world.start()
+            self.copied = self.draw.choice(later)
+            office, newest = world.offices[self.copied], world.folder / "newest"
             shutil.copyfile(office.journal, newest)
-            shutil.copyfile(world.folder / "copy", office.journal)
+            shutil.copyfile(world.folder / (office.role + ".copy"), office.journal)
             self.put_back = len(nodes.events(newest.read_bytes())[0]) - len(nodes.events(office.journal.read_bytes())[0])
             self.told_back = self.found_back(office, newest)
             kept = {event[1:] for event in nodes.events(office.journal.read_bytes())[0] if event[0] == 1}
