@@ -4,6 +4,7 @@ What aw_book has to say of a file comes from docs/JOURNAL.md and docs/BOOK.md, a
 asked that it ends with a status that its page has, and never with a traceback or a fault of its own (70)."""
 from __future__ import annotations
 
+import argparse
 import os
 import resource
 import shutil
@@ -33,11 +34,28 @@ MEBIBYTE = 1 << 20
 TEXT = sessions.example("insurance-claim.aw").split(b"\nschedule")[0] + b"\n"
 
 
-def word_of(parser: object) -> None:
-    """The word --program, for a script."""
-    parser.add_argument("--program", choices=("aw", "aw_book", "companions"), default="aw",  # type: ignore[attr-defined]
+def word_of(parser: argparse.ArgumentParser) -> None:
+    """The words --program and --aw, for a script."""
+    parser.add_argument("--program", dest="program_is", choices=("aw", "aw_book", "companions"), default="aw",
                         help="what BIN is: aw, or aw_book; for companions, the aw that they ask (aw)")
-    parser.add_argument("--aw", help="with --program aw_book: the aw that makes the journals; else what AW names, else the built one")  # type: ignore[attr-defined]
+    parser.add_argument("--aw", help="with --program aw_book: the aw that makes the journals; else what AW names, else the built one")
+
+
+def both(given: argparse.Namespace) -> tuple[str, str, str]:
+    """Which program is looked at, where it is, and where aw is."""
+    binary = living.program(getattr(given, "binary", None) or given.program, "AW_BOOK", "aw_book")
+    return given.program_is, binary, binary if given.program_is == "companions" else living.program(given.aw, "AW", "aw_prog")
+
+
+def guarded(work: Callable[[], None]) -> None:
+    """A script, which ends with 2 and a sentence where it could not run."""
+    try:
+        work()
+    except KeyboardInterrupt:
+        sys.exit(130)
+    except (living.Sorry, OSError, TimeoutError, subprocess.SubprocessError) as trouble:
+        print("%s: %s" % (os.path.basename(sys.argv[0]), trouble), file=sys.stderr)
+        sys.exit(2)
 
 
 def journals(aw: str) -> dict[str, bytes]:
@@ -168,15 +186,16 @@ def changes(program: str, binary: str, aw: str, every: int) -> int:
     return wrong
 
 
-def faults(program: str, binary: str, aw: str, shim: str, first: int) -> int:
+def faults(program: str, binary: str, aw: str, source: str, first: int) -> int:
     """Makes each allocation, reading of the file and writing of aw_book fail; how many answers differ. Companions are killed at each change of a file."""
     if program == "companions":
         return killed(aw)
     wrong, data = 0, next(iter(journals(aw).values()))
     statuses = {"memory": NO_MEMORY, "disk": NOT_READ, "write": NOT_WRITTEN}
     with tempfile.TemporaryDirectory(dir=nodes.FAST) as folder:
-        path, count = Path(folder) / "journal", Path(folder) / "count"
+        path, count, shim = Path(folder) / "journal", Path(folder) / "count", str(Path(folder) / "faulty.so")
         path.write_bytes(data)
+        subprocess.run(["cc", "-O2", "-shared", "-fPIC", "-o", shim, source], check=True)
 
         def run(words: list[str], call: str, at: int, rest: int) -> Answer:
             return answer([*words, str(path)], env={"LD_PRELOAD": shim, "FAULTY_CALL": call, "FAULTY_AT": str(at), "FAULTY_REST": str(rest), "FAULTY_COUNT": str(count)})
@@ -210,8 +229,10 @@ def large(aw: str) -> Iterator[tuple[str, bytes]]:
     yield "1,000,000 letters of one byte", head + b"".join(b"\x01" + struct.pack(">Q", 2) + b"\x02\x01" for _ in range(1_000_000)) + b"\0"
 
 
-def hostile_rows(binary: str, aw: str, limit: int) -> bool:
+def hostile_rows(program: str, binary: str, aw: str, limit: int) -> bool:
     """A row for each; whether each ended with a status that is called for, and within its time."""
+    if program != "aw_book":
+        raise living.Sorry("Of the companions cuts.py and changes.py have what is given in bad faith.")
     print("| Journal | Command | MiB | Status | Processor s | MiB held |\n|---|---|---|---|---|---|")
     good = True
     with tempfile.TemporaryDirectory(dir=nodes.FAST) as folder:
@@ -219,13 +240,12 @@ def hostile_rows(binary: str, aw: str, limit: int) -> bool:
         for name, data in large(aw):
             path.write_bytes(data)
             for command in asked_of(binary):
-                began = resource.getrusage(resource.RUSAGE_CHILDREN)
                 process = subprocess.Popen([binary, *command, str(path)], stdout=subprocess.DEVNULL, stderr=subprocess.DEVNULL,
                                            preexec_fn=lambda: resource.setrlimit(resource.RLIMIT_CPU, (limit, limit)))
                 _, code, used = os.wait4(process.pid, 0)
                 process.returncode = status = os.waitstatus_to_exitcode(code)
                 fits = status in (GOOD, NOT_GOOD, NO_MEMORY)
-                good = good and fits and began is not None
+                good = good and fits
                 print("| %s | `%s` | %.1f | %d%s | %.2f | %.1f |" % (name, " ".join(command), len(data) / MEBIBYTE, status, "" if fits else " !",
                                                                    used.ru_utime + used.ru_stime, used.ru_maxrss / 1024), flush=True)
     return good
@@ -305,8 +325,10 @@ def zeros(book: str, folder: Path, data: bytes) -> Iterator[str]:
             yield "%s of a journal before 1 GiB of zeros, with 400 MiB: status %d after %.0f s" % (" ".join(command), status, time.monotonic() - began)
 
 
-def edge(binary: str, aw: str) -> int:
+def edge(program: str, binary: str, aw: str) -> int:
     """What is wrong at the edge of aw_book; how much."""
+    if program != "aw_book":
+        raise living.Sorry("The edge of the companions is looked at by their own tests: ci/companions.")
     data, wrong = next(iter(journals(aw).values())), 0
     checks: dict[str, Callable[[Path, Path], Iterator[str]]] = {
         "closed": lambda folder, path: closed_ends(binary, path), "files": lambda folder, path: no_files(binary, folder, path),
