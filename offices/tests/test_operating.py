@@ -91,7 +91,7 @@ def test_completions_and_man_page_have_every_option_of_the_book() -> None:
     commands = re.findall(r"^  ([a-z]+) ", helped.split("Commands:")[1].split("Options:")[0], re.M)
     for command in [command for command in commands if command != "help"]:
         assert all(command in text for text in texts) and "*aw_book %s*" % command in man, command
-        options = re.findall(r"--([a-z]+)", subprocess.run([str(BOOK), command, "--help"], capture_output=True, text=True, timeout=LONG).stdout)
+        options = re.findall(r"--([a-z-]+[a-z])", subprocess.run([str(BOOK), command, "--help"], capture_output=True, text=True, timeout=LONG).stdout)
         for option in set(options) - {"help", "version"}:
             assert all(option in text for text in texts) and "*--%s*" % option in man, (command, option)
 
