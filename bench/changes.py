@@ -1,9 +1,14 @@
 #!/usr/bin/env python3
 """changes.py BIN [--every N] [FILE..]
+   changes.py BIN --program aw_book [--aw AW] [--every N]
+   changes.py BIN --program companions
 
 Changes inputs at each byte, or at each Nth: the byte is taken out, doubled, or replaced by one that begins something else.
 Each answer is compared with the second reader in reading.py: the status, the line of a refusal, and what `check` writes.
 Prints the counts, and each run that differs. Without FILE the inputs are the examples.
+
+With `--program aw_book` BIN is that program, and journals of real nodes are changed; with `--program companions` BIN is aw, and the companions in
+Python are given changed files, at a dozen places each or at each Nth. What has to come is told by cuts.py.
 """
 import argparse
 import os
@@ -13,6 +18,8 @@ from concurrent.futures import ThreadPoolExecutor
 
 sys.dont_write_bytecode = True
 import cuts
+import nodes
+import readers
 import reading
 
 REPLACED = [b"(", b")", b"<", b",", b"{", b";", b"=", b'"', b"\\", b"\n", b"%", b"0", b"9", b"b", b"/", b".", b" ",
@@ -67,7 +74,10 @@ def main():
     parser.add_argument("binary")
     parser.add_argument("files", nargs="*")
     parser.add_argument("--every", type=int, default=1)
+    readers.word_of(parser)
     arguments = parser.parse_intermixed_args()
+    if arguments.program_is != "aw":
+        cuts.finish(readers.changes(*readers.both(arguments), arguments.every))
     binary, faults = os.path.abspath(arguments.binary), 0
     paths = arguments.files or [os.path.join(cuts.HERE, "..", "examples", name) for name in cuts.EXAMPLES]
     for path in paths:
@@ -78,4 +88,5 @@ def main():
 
 
 if __name__ == "__main__":
-    main()
+    nodes.alone()
+    readers.guarded(main)

@@ -1,5 +1,7 @@
 #!/usr/bin/env python3
 """cuts.py BIN [--beside OTHER] [--only WORD..] [FILE..]
+   cuts.py BIN --program aw_book [--aw AW]
+   cuts.py BIN --program companions
 
 Cuts inputs after each byte, runs the commands on what is left, and looks at each answer:
 
@@ -13,6 +15,10 @@ how many there were and how the session ended; where the node is kept, its journ
 
 With `--beside` each answer also has to be that of another program of the same commands. `--only` takes words of `check`, `plain`, `replay`,
 `node`, `kept`. Prints the counts, and each run that differs. Without FILE the inputs are the examples.
+
+With `--program aw_book` BIN is that program, and journals of real nodes are cut after each byte: each command has to say how such a file stands, as a
+second reader of the format has it, to write the events that count, and to leave the file. With `--program companions` BIN is aw, and the companions
+in Python are given cut specifications, journals and places: each ends with a status of its page, and none with a traceback.
 """
 import argparse
 import os
@@ -24,6 +30,7 @@ from concurrent.futures import ThreadPoolExecutor
 
 sys.dont_write_bytecode = True
 import nodes
+import readers
 import reading
 import sessions
 
@@ -182,7 +189,10 @@ def main():
     parser.add_argument("files", nargs="*")
     parser.add_argument("--beside")
     parser.add_argument("--only", action="append", choices=(*COMMANDS, "node", "kept"))
+    readers.word_of(parser)
     arguments = parser.parse_intermixed_args()
+    if arguments.program_is != "aw":
+        finish(readers.cuts(*readers.both(arguments)))
     binary, only = os.path.abspath(arguments.binary), arguments.only or (*COMMANDS, "node", "kept")
     other = arguments.beside and os.path.abspath(arguments.beside)
     faults = 0
@@ -199,4 +209,4 @@ def main():
 
 if __name__ == "__main__":
     nodes.alone()
-    main()
+    readers.guarded(main)

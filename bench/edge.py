@@ -1,5 +1,6 @@
 #!/usr/bin/env python3
 """edge.py [BIN] [--only CHECK..]
+   edge.py BIN --program aw_book [--aw AW]
 
 Does to the built program, at its edge, what no proof covers, and says what was lost, changed, or waited for where it should not be:
 
@@ -22,6 +23,9 @@ interrupted  SIGSTOP and SIGCONT while a node or a courier waits for its peer
 BIN is the program; where it is not said, it is what AW names, else crates/aw_prog/out/aw_prog. Each check runs in a network and a process
 namespace of its own, beside the others; all of them take about 65 s. Ends with 1 where a check found something, with 2 where it could not run.
 Needs unshare (Debian's util-linux) and ip (iproute2).
+
+With `--program aw_book` BIN is that program, and its own edge is looked at: closed and full streams, what is no plain file, a journal that is written
+meanwhile, and a journal before 1 GiB of zeros with little memory.
 """
 from __future__ import annotations
 
@@ -47,6 +51,7 @@ from pathlib import Path
 sys.dont_write_bytecode = True
 import kill
 import nodes
+import readers
 import sessions
 from client import Node, Trouble
 
@@ -739,7 +744,11 @@ def main() -> None:
     asked.add_argument("program", nargs="?", default=os.environ.get("AW", str(BUILT)), metavar="BIN")
     asked.add_argument("--only", nargs="+", choices=list(CHECKS), default=list(CHECKS), metavar="CHECK")
     asked.add_argument("--one", help=argparse.SUPPRESS)
+    readers.word_of(asked)
     given = asked.parse_args()
+    if given.program_is != "aw":
+        nodes.alone()
+        readers.guarded(lambda: sys.exit(1 if readers.edge(*readers.both(given)) else 0))
     program = os.path.abspath(given.program)
     if not os.access(program, os.X_OK):
         stop_with('There is no program at "%s"; build it with rt ci, or name it: edge.py BIN.' % program)

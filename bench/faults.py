@@ -1,5 +1,7 @@
 #!/usr/bin/env python3
 """faults.py BIN [--first N] [--more N] [--only WORD..]
+   faults.py BIN --program aw_book [--aw AW] [--first N]
+   faults.py BIN --program companions
 
 Makes each call of the program fail in turn, takes its memory away, and gives it broken input and output, in every command. What has to come is
 in docs/SCHEDULE.md ("Statuses") and docs/JOURNAL.md:
@@ -16,6 +18,10 @@ Where an input has more calls than the first thousand (`--first`), of those behi
 Each fails once alone, and once with all behind it. `--only` takes words of `check`, `plain`, `replay`, `trial`, `node`, `kept`, `courier`, `pieces`,
 `ends`, `limits`. Prints the counts, and each run that differs. Needs cc, for faulty.c; nodes are in a network of their own where the system lets
 them, else the ports from 7400 on have to be free.
+
+With `--program aw_book` BIN is that program, and of each of its commands the first calls fail: an allocation (status 5), a call on the file (3), and
+a write (4); or the answer is unchanged. With `--program companions` BIN is aw, and the companions that change files are killed at each such call:
+each file is the old one or the new one whole (needs strace; the post is killed by month.py and by ci/nightly).
 """
 import argparse
 import os
@@ -30,6 +36,7 @@ sys.dont_write_bytecode = True
 import edge
 import inputs
 import nodes
+import readers
 import served
 import sessions
 
@@ -287,7 +294,12 @@ def main():
     parser.add_argument("--more", type=int, default=500, help="and how many of those behind, at most")
     parser.add_argument("--only", nargs="*", default=ALL, choices=ALL, metavar="WORD")
     parser.add_argument("--jobs", type=int, default=2, help="runs beside each other, where they need no network")
+    readers.word_of(parser)
     arguments = parser.parse_args()
+    if arguments.program_is != "aw":
+        wrong = readers.faults(*readers.both(arguments), os.path.join(HERE, "faulty.c"), arguments.first)
+        print("%d answers differ" % wrong)
+        sys.exit(1 if wrong else 0)
     binary, told, only = os.path.abspath(arguments.binary), Told(), arguments.only
     with tempfile.TemporaryDirectory() as folder:
         shim = os.path.join(folder, "faulty.so")
@@ -306,4 +318,4 @@ def main():
 
 if __name__ == "__main__":
     nodes.alone()
-    main()
+    readers.guarded(main)

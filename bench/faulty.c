@@ -7,7 +7,7 @@
  *                  dial     socket, bind, listen, accept, connect and setsockopt
  *                  receive  recv
  *                  send     send
- *                  disk     open and flock, and of what was opened fsync, fdatasync, ftruncate, lseek, statx, read and write
+ *                  disk     open and flock, and of what was opened fsync, fdatasync, ftruncate, lseek, statx, read, pread and write
  *   FAULTY_AT      the number of the first call that fails, from 1; 0 for none
  *   FAULTY_REST    1: all later calls fail too
  *   FAULTY_ERROR   the error number of a call that fails
@@ -211,6 +211,11 @@ int ftruncate(int file, off_t length) {
 off_t lseek(int file, off_t place, int from) {
     if (file > 2 && fails("disk", __builtin_return_address(0))) return -1;
     return syscall(SYS_lseek, file, place, from);
+}
+
+ssize_t pread64(int file, void *bytes, size_t length, off_t place) {
+    if (fails("disk", __builtin_return_address(0))) return -1;
+    return syscall(SYS_pread64, file, bytes, is_ours(__builtin_return_address(0)) ? shortened(length) : length, place);
 }
 
 int statx(int file, const char *path, int flags, unsigned mask, struct statx *told) {

@@ -1,5 +1,6 @@
 #!/usr/bin/env python3
 """hostile.py BIN [--only WORD] [--limit SECONDS] [--scale N]
+   hostile.py BIN --program aw_book [--aw AW] [--limit SECONDS]
 
 Gives the program what nobody in good faith gives it, in each command that takes such input: values a million deep, 16 MiB of each kind of token,
 names of 250 and 251 steps, sessions at their limits, nodes that are sent forged values without end, forged journals, and a courier whose nodes lie. Prints for
@@ -9,6 +10,9 @@ with 1 where an end is marked.
 
 `--scale N` makes the inputs whose name ends in `*` N times larger: of those the work grows faster than the input, or is as large as a session
 lets it be. Needs GNU time; nodes are in a network of their own where the system lets them, else the ports from 7400 on have to be free.
+
+With `--program aw_book` BIN is that program, and each of its commands is given forged journals. The companions ask the programs, and have what they
+refuse in words (cuts.py and changes.py with `--program companions`).
 """
 import argparse
 import os
@@ -23,6 +27,7 @@ from dataclasses import dataclass, field
 sys.dont_write_bytecode = True
 import inputs
 import nodes
+import readers
 from inputs import BAD_SCHEDULE, BAD_SPECIFICATION, DONE, INPUT_LIMIT, TOO_LARGE, text
 from nodes import CHOOSE, LIST, PULL, PUSH, frame, place
 
@@ -493,7 +498,10 @@ def main():
     parser.add_argument("--only", default="", help="the attacks with this word in their name or command")
     parser.add_argument("--limit", type=int, default=60, help="seconds of the processor after which a run is killed")
     parser.add_argument("--scale", type=int, default=1)
+    readers.word_of(parser)
     arguments = parser.parse_args()
+    if arguments.program_is != "aw":
+        sys.exit(0 if readers.hostile_rows(*readers.both(arguments), arguments.limit) else 1)
     binary, good, most = os.path.abspath(arguments.binary), True, (0.0, "")
     print("| Input | Command | MiB given | Status | Processor s | MiB held | Times the input |\n|---|---|---|---|---|---|---|")
     for attack in attacks(binary, arguments.scale):
@@ -511,4 +519,4 @@ def main():
 
 if __name__ == "__main__":
     nodes.alone()
-    main()
+    readers.guarded(main)

@@ -25,7 +25,7 @@ HEAD = """# The crates
 
 Written by `bench/index.py` from `crates.txt` and the page of each crate, which says what the crate promises, why it is built so, what it does not promise, and how it was attacked. Groups are in the order in which a newcomer walks.
 
-*Stands on* names the highest crates that a crate uses, and so all below them. *Lines* are those of source, definitions and proofs. *Wrong bodies* are those that the checker has to refuse ([PLANTED.md](PLANTED.md)): tried by the gate + by hand. *Run by* are the nearest tables above a crate, programs whose stored run is compared to the byte; `itself` is such a program.
+*Stands on* names the highest crates that a crate uses, and so all below them. [*Wrong*](PLANTED.md) are wrong bodies that the checker has to refuse: tried by the gate + by hand. *Run by* are the nearest tables above a crate; `itself` is one.
 """
 
 
@@ -90,11 +90,10 @@ def purpose(crate: str) -> str:
 
 def row(crate: str) -> str:
     """Returns the line of a crate in its table."""
-    sizes = [lines_in(crate, *it) for it in (("src", ".rt"), ("specs", ".antt"), ("proofs", ".antt"))]
     by_gate, by_hand = len(planted.edits_of(crate, "must-fail")), len(planted.edits_of(crate))
     bodies = f"{by_gate} + {by_hand}" if by_gate else str(by_hand or "")
     tables = "itself" if (CRATES / crate / "stdout").is_file() else ", ".join(it.removeprefix("table_") for it in tables_of(crate))
-    cells = [f"[{crate}](../crates/{crate}/README.md)", purpose(crate), " ".join(stands_on(crate)), " / ".join(f"{it:,}" for it in sizes), bodies, tables]
+    cells = [f"[{crate}](../crates/{crate})", purpose(crate), " ".join(stands_on(crate)), bodies, tables]
     return "| " + " | ".join(cells) + " |"
 
 
@@ -104,13 +103,13 @@ def page() -> str:
     total = [0, 0, 0]
     for name, what, crates in groups():
         parts.append(f"## {name.capitalize()}\n\n{what[0].upper()}{what[1:]}.\n")
-        parts.append("| Crate | What it is for | Stands on | Lines | Wrong bodies | Run by |\n|---|---|---|---|---|---|\n" + "\n".join(map(row, crates)) + "\n")
+        parts.append("| Crate | What it is for | Stands on | Wrong | Run by |\n|---|---|---|---|---|\n" + "\n".join(map(row, crates)) + "\n")
         for crate in crates:
             for i, it in enumerate((("src", ".rt"), ("specs", ".antt"), ("proofs", ".antt"))):
                 total[i] += lines_in(crate, *it)
     names = [it for _, _, crates in groups() for it in crates]
     gate, hand = (sum(len(planted.edits_of(it, folder)) for it in names) for folder in ("must-fail", "planted"))
-    parts.append(f"In all: {len(names)} crates; lines {' / '.join(f'{it:,}' for it in total)}; wrong bodies {gate} + {hand}.\n")
+    parts.append(f"In all: {len(names)} crates; lines of source / definitions / proofs {' / '.join(f'{it:,}' for it in total)}; wrong bodies {gate} + {hand}.\n")
     return "\n".join(parts)
 
 
@@ -249,7 +248,7 @@ def lost_citations() -> list[str]:
     faults = []
     for line in (TOP / "docs" / "CLAIMS.md").read_text(encoding="utf-8").split("\n"):
         cells, crate = re.split(r"(?<!\\) \| ", line.strip("| ")), ""
-        for said in re.findall(r"`([^`]+)`", cells[1]) if line.startswith("| ") and len(cells) == 3 else []:
+        for said in re.findall(r"`([^`]+)`", cells[1]) if line.startswith("| ") and len(cells) == 2 else []:
             path = re.fullmatch(r"(?:(\w+)::)?([\w:]+)", said)
             if not path:
                 continue

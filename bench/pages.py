@@ -7,7 +7,7 @@ Types what the pages show, as a reader would, and compares what comes with what 
   it stands. A terminal in which a node was begun is left to it, and a node that is begun anew at a port ends the one before. Where the page says
   "Start it again" the kept node is killed first.
 - README.md: its first two boxes are examples/repair-order.aw and what `replay` writes of it; its commands on a built program end with 0.
-- docs/SCHEDULE.md: its two examples, and the trial's specification.
+- docs/SCHEDULE.md: its example.
 - docs/PROTOCOL.md: the session in bytes, and the two messages.
 
 Ends with 1 where something else came. Nodes are in a network of their own where the system lets them, else the ports from 7400 on have to be free.
@@ -146,12 +146,9 @@ def readme(binary, folder):
 def schedule(binary):
     """What is wrong in docs/SCHEDULE.md."""
     shown = [box for _, box in boxes(page("docs/SCHEDULE.md"))]
-    for data, command, wanted in ((shown[0], "replay", shown[1]), (shown[2], "replay", shown[3]), (shown[2], "plain", shown[4])):
-        if answer(binary, command, data) != wanted:
-            yield "docs/SCHEDULE.md: %s writes something else of an example" % command
-    trial = next(box for _, box in boxes(page("docs/SCHEDULE.md")) if box.startswith("role front\nrole lab\nrole desk"))
-    if not answer(binary, "check", trial).startswith("accepted\n"):
-        yield "docs/SCHEDULE.md: the trial's specification is not accepted"
+    for command, wanted in (("replay", shown[1]), ("plain", shown[2])):
+        if answer(binary, command, shown[0]) != wanted:
+            yield "docs/SCHEDULE.md: %s writes something else of the example" % command
 
 
 def protocol(binary):

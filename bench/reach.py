@@ -12,6 +12,7 @@ from __future__ import annotations
 
 import argparse
 import re
+import signal
 import sys
 from functools import cache
 from pathlib import Path
@@ -26,12 +27,17 @@ START = CRATES / "aw_run" / "src" / "running.rt"
 HEADLINE = ["arrived", "enabled", "started", "stays", "merged", "answers", "any_order", "settles", "bounded", "acyclic", "no_circle"]
 MOST = 2500
 
+# Clauses that reach fewer lines have no row.
+SHOWN = 200
+
 # The crates whose definitions say how bytes spell a specification and a schedule.
 SPELLING = ["aw_lex", "aw_spelling", "aw_term_reader", "aw_name_index", "aw_grammar", "aw_face", "aw_spec", "aw_sched"]
 
 HEAD = """# What has to be read
 
 Written by `bench/reach.py`, which `ci/pages` runs. A clause says no more than its definitions: whoever wants to trust a clause of `aw_run::run` has to read these, and none of the proofs. The script goes from the names in a clause through the names in their definitions, down to the words of the kit's library. *Lines* are those of the definitions themselves that are neither empty nor a comment; of a type of the program its declaration counts, or the value that contracts see it as, and of a trait its ghost members.
+
+Begin with `aw_term` (Trees, Matching, Choices, Configs, Runs); then `aw_law_sites` (Sites, Choosing, Receiving, Reacting, Worlds, Outputs), and last `aw_run` (Promises), which the clauses cite. [MODEL](MODEL.md) has them in words.
 """
 
 WORD = re.compile(r"[^\W\d][\w'-]*(?:\.[^\W\d][\w'-]*)*")
@@ -268,13 +274,15 @@ def in_words(names: set[Name]) -> str:
 
 
 def listed(names: set[Name]) -> str:
-    """Returns a line for each crate of these definitions, with its files and how many lines of each."""
-    crates: dict[str, list[str]] = {}
-    for file, here in files_of(names).items():
-        crate, folder, *inside = file.relative_to(CRATES).parts
-        short = "/".join(inside).removesuffix(".antt") if folder == "specs" else "/".join([folder, *inside])
-        crates.setdefault(crate, []).append(f"{short} {lines_of(here):,}")
-    return "\n".join(f"- [{crate}](../crates/{crate}): {', '.join(files)}" for crate, files in crates.items())
+    """Returns a line for each crate of these definitions, with how many lines they have and their files."""
+    crates: dict[str, set[Name]] = {}
+    for it in sorted(names):
+        crates.setdefault(it.file.relative_to(CRATES).parts[0], set()).add(it)
+    rows = []
+    for crate, here in crates.items():
+        files = ["/".join(it.relative_to(CRATES / crate).parts).removeprefix("specs/").removesuffix(".antt") for it in files_of(here)]
+        rows.append(f"- [{crate}](../crates/{crate}), {lines_of(here):,}: {', '.join(files)}")
+    return "\n".join(rows)
 
 
 def page() -> tuple[str, list[str]]:
@@ -284,14 +292,12 @@ def page() -> tuple[str, list[str]]:
     faults = [f"{it} is found nowhere" for it in faults] + [f"aw_run::run has no clause {it}" for it in HEADLINE if it not in found]
     order = [*(it for it in HEADLINE if it in found), *(it for it in found if it not in HEADLINE)]
     seen: set[Name] = set()
-    rows, parts = [], []
+    rows = []
     for name in order:
-        mine, kit, _ = found[name]
-        new = mine - seen
-        seen |= new
-        rows.append(f"| `{name}` | {len(files_of(mine))} | {len(mine)} | {lines_of(mine):,} | {lines_of(new):,} | {len(kit)} |")
-        if new:
-            parts.append(f"### `{name}`\n\n{listed(new)}\n")
+        mine = found[name][0]
+        if lines_of(mine) >= SHOWN:
+            rows.append(f"| `{name}` | {len(files_of(mine))} | {lines_of(mine):,} | {lines_of(mine - seen):,} |")
+        seen |= mine
     headline = set().union(*(found[it][0] for it in HEADLINE if it in found))
     total = lines_of(headline)
     if total > MOST:
@@ -303,12 +309,13 @@ def page() -> tuple[str, list[str]]:
         f"Of these, {lines_of(spelling):,} lines say how bytes spell a specification and a schedule, and {lines_of(headline - spelling):,} what is said of them. "
         f"All clauses of `run` together reach {len(seen)} definitions of {lines_of(seen):,} lines in {len(files_of(seen))} files.\n",
         "## How much for each clause\n",
-        "*New* are the lines that no clause above reaches. *Words* are those of the kit's library that are named on the way.\n",
-        "| Clause | Files | Definitions | Lines | New | Words |\n|---|---|---|---|---|---|\n" + "\n".join(rows) + "\n",
+        f"*New* are the lines that no clause above reaches. A clause that is not listed, on faults and on who touches what, reaches fewer than {SHOWN} lines.\n",
+        "| Clause | Files | Lines | New |\n|---|---|---|---|\n" + "\n".join(rows) + "\n",
         "## Which definitions\n",
-        "Below each clause stand the files with the definitions that no clause above reaches, and how many lines these have; a file without a folder is in the crate's `specs/`. "
+        "How many lines of each crate, and their files; a file without a folder is in the crate's `specs/`. "
         "`bench/reach.py --names CLAUSE` lists all definitions that a clause reaches, by name.\n",
-        *parts,
+        f"### The headline\n\n{listed(headline)}\n",
+        f"### What the other clauses reach beyond it\n\n{listed(seen - headline)}\n",
     ]
     return "\n".join(text), faults
 
@@ -329,6 +336,7 @@ def main() -> int:
     words = reader.parse_args()
     checks = words.check
     if words.names:
+        signal.signal(signal.SIGPIPE, signal.SIG_DFL)
         asked = clauses()
         if words.names not in asked:
             print(f"reach.py: aw_run::run has no clause {words.names}; its clauses are {', '.join(asked)}", file=sys.stderr)

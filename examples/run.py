@@ -7,8 +7,8 @@ Stored outputs: for each FILE.aw in faults/ and tutorial/, what stands beside it
 FILE.replay is what these commands have to write of it. They were written by hand before any was run. The exit
 status has to be the one that belongs to the first words written.
 Shown commands: each box of docs/TUTORIAL.md that begins with `$ aw` has to show all that this command writes.
-Shown texts: the pages have to show each FILE.aw, or what stands in it behind its line `schedule`; of those named
-KIND-MORE.aw the faulty line alone, and of tutorial/FILE.OTHER.aw the lines that FILE.aw has not.
+Shown texts: the pages have to show each FILE.aw, or what stands in it behind its line `schedule`, of tutorial/FILE.aw
+line by line; of those named KIND-MORE.aw the faulty line alone, and of FILE.OTHER.aw the lines that FILE.aw has not.
 """
 import re
 import subprocess
@@ -81,9 +81,10 @@ def is_shown(source):
     page = (DOCS / PAGE_OF[folder]).read_text()
     if "-" in source.name and faulty_line(source):
         return f"`{faulty_line(source)}`" in page
-    if folder == "tutorial" and source.name.count(".") > 1:
-        return all(line + "\n" in page for line in new_lines(source))
-    return re.split(r"\nschedule(?: 2)?\n", source.read_text())[-1] in boxes(page)
+    if source.name.count(".") > 1:
+        return all(line + "\n" in page or f"`{line}`" in page for line in new_lines(source))
+    text = re.split(r"\nschedule(?: 2)?\n", source.read_text())[-1]
+    return text in boxes(page) or folder == "tutorial" and all(line + "\n" in page for line in text.splitlines())
 
 
 def main():

@@ -82,9 +82,16 @@ class Desk:
             return None
         return self.open().get(name) or self.case(name.partition("/")[0]).get(name)
 
-    def whole(self, case: str) -> dict[str, Task]:
-        """A case over all offices, as it is once all letters are there."""
-        return tasks_of(book.said("cases", "--case", case, *self.journals)) if self.is_case(case) else {}
+    def whole(self, case: str) -> tuple[list[Task], int]:
+        """A case at all offices, each task as its own office knows it now, and how many journals can't be read."""
+        found, unread = dict[str, Task](), 0
+        for journal in self.journals if self.is_case(case) else []:
+            try:
+                found.update(tasks_of(book.said("tasks", "--case", case, journal)))
+            except NotSaid as error:
+                LOG.error("%s", error)
+                unread += 1
+        return [found[name] for name in sorted(found)], unread
 
     def starts(self) -> list[str]:
         """The sorts with which a case can be begun here."""

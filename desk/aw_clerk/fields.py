@@ -19,12 +19,13 @@ LONG_WORDS = frozenset(("what", "why", "text", "note", "reason", "comment", "rep
 
 @dataclass(slots=True)
 class Field:
-    """A field: its name in the form, its label, its type where one is declared, what was entered, and what is wrong with it."""
+    """A field: its name in the form, label, type where one is declared, help with it and with its parts, what was entered, and what is wrong with it."""
 
     key: str
     label: str
     kind: str | None
     help: str = ""
+    part_help: str = ""
     chosen: str = ""
     entered: str = ""
     fault: str = ""
@@ -94,7 +95,7 @@ def fill(wording: Wording, into: Field, form: Mapping[str, str], look: bool, dep
     if look:
         into.fault = fault_of(into)
     if into.chosen in wording.spec.cons and into.kind not in ("num", "text"):
-        into.parts = parts_of(wording, into, form)
+        into.parts, into.part_help = parts_of(wording, into, form), wording.note("con", into.chosen)
         if into.parts and depth == DEEPEST_FORM:
             into.parts, into.fault = [], "Nothing deeper can be entered here: %d values within one another are the most." % DEEPEST_FORM
         for part in into.parts:

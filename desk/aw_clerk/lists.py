@@ -1,10 +1,13 @@
 """Lists of open tasks: what fits a filter, in which order, and how much of it a page takes."""
 from __future__ import annotations
 
+from collections.abc import Callable
+
 from .tasks import Task, steps_of
 from .wording import Wording, human
 
 A_PAGE, MOST_OF_NAMES = 36, 9_000
+ORDERS = {"old": "lowest number", "new": "highest number", "long": "longest here", "late": "latest here"}
 
 
 def wanted(tasks: list[Task], words: str, sort: str, ready: bool, wording: Wording) -> list[Task]:
@@ -30,9 +33,12 @@ def cuts(tasks: list[Task]) -> list[int]:
     return found
 
 
-def ordered(tasks: list[Task], order: str) -> list[Task]:
-    """Tasks by case, the lowest number or the highest first."""
+def ordered(tasks: list[Task], order: str, since: Callable[[str], float]) -> list[Task]:
+    """Tasks in one of the orders: by case, or by the time since when they have been here and then by case."""
     def key(task: Task) -> tuple[str, int]:
         parts = steps_of(task.name) or (task.name, 0, [])
         return parts[0], parts[1] if order != "new" else -parts[1]
-    return sorted(tasks, key=key)
+    found = sorted(tasks, key=key)
+    if order in ("long", "late"):
+        found.sort(key=lambda task: since(task.name) if order == "long" else -since(task.name))
+    return found

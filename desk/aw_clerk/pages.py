@@ -5,7 +5,6 @@ import hmac
 import re
 import secrets
 import threading
-import time
 from collections.abc import Callable
 from dataclasses import dataclass
 from pathlib import Path
@@ -22,7 +21,7 @@ from .tasks import Task, steps_of
 from .values import LARGEST, Value, groups_of
 from .wording import human, moment, titled
 
-MOST_OF_TASKS, OF_A_TREE = 24_000, 6_000
+MOST_OF_TASKS, OF_A_TREE, OF_A_FORM, OF_NAMES = 24_000, 6_000, 12_000, 4_000
 OWN_NAMES = ("127.0.0.1", "localhost", "::1")
 Answer = str | Response | tuple[str, int]
 
@@ -86,8 +85,8 @@ class Pages:
     # what
     def rows(self, tasks: list[Task]) -> list[Row]:
         """Open tasks for the list."""
-        since, claims, now = self.desk.records.since([task.name for task in tasks]), self.desk.records.claims(), time.time()
-        return [self.row(task, since.get(task.name, now), claims.get(task.name, ("", 0))[0]) for task in tasks]
+        claims = self.desk.records.claims()
+        return [self.row(task, self.desk.records.since(task.name), claims.get(task.name, ("", 0))[0]) for task in tasks]
 
     def row(self, task: Task, since: float, clerk: str) -> Row:
         """An open task for the list."""
@@ -108,6 +107,20 @@ class Pages:
     def tree(self, values: list[Value], label: Callable[[int], str], most: int = trees.MOST_BYTES) -> Markup:
         """Values with their labels."""
         return trees.page(self.desk.wording, [(label(at), value) for at, value in enumerate(values)], most)
+
+    def given(self, task: Task, most: int = trees.MOST_BYTES) -> Markup | str:
+        """What a task was given."""
+        values = task.values()[1]
+        return self.tree(values, lambda at: self.desk.wording.given(task.name, at), most) if values else ""
+
+    def open_in(self, case: str) -> list[tuple[str, str]]:
+        """The first open tasks of a case here: names, and in words."""
+        found, size = [], 0
+        for name, task in self.desk.open().items():
+            size += len(name) if task.case == case else 0
+            if task.case == case and size <= OF_NAMES:
+                found.append((name, self.desk.wording.task(name)))
+        return found
 
     def decided(self, task: Task, most: int = 2 * OF_A_TREE) -> dict[str, object]:
         """A decided task: what it was given, what was entered, and what it gives back, each in so many bytes at most."""

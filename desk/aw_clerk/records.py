@@ -21,6 +21,8 @@ CREATE TABLE IF NOT EXISTS claimed (task TEXT PRIMARY KEY, clerk TEXT NOT NULL, 
 """
 CLAIM_SECONDS = 30 * 60.0
 UNSURE = "not known"
+MOST_WORDS = 20
+HAS_WORD = " AND instr(lower(clerk || ' ' || replace(replace(task, '#', ' '), '_', ' ') || ' ' || replace(rule, '_', ' ') || ' ' || entered), lower(?)) > 0"
 
 
 @dataclass(frozen=True, slots=True)
@@ -46,7 +48,7 @@ class Records:
             path.chmod(0o600)
         except (sqlite3.Error, OSError) as error:
             raise Sorry("The desk's notes can't be kept in %s: %s." % (path, error), 73) from None
-        self.known = {task for task, in self.base.execute("SELECT task FROM seen")}
+        self.known: dict[str, float] = dict(self.base.execute("SELECT task, at FROM seen"))
 
     def close(self) -> None:
         """Closes the file."""
@@ -59,11 +61,12 @@ class Records:
             self.base.execute("INSERT INTO decided (at, clerk, task, rule, entered, answer) VALUES (?, ?, ?, ?, ?, ?)", (time.time(), clerk, task, rule, plain(entered), answer))
             self.base.execute("DELETE FROM claimed WHERE task = ?", (task,))
 
-    def decisions(self, most: int, before: int | None = None) -> list[tuple[int, Decision]]:
-        """The last decisions, the newest first, each with its number."""
+    def decisions(self, most: int, before: int | None = None, words: str = "") -> list[tuple[int, Decision]]:
+        """The last decisions that have each of some words, the newest first, each with its number."""
+        looked = words.split()[:MOST_WORDS]
         with self.turn:
-            rows = self.base.execute("SELECT number, at, clerk, task, rule, entered, answer FROM decided WHERE number < ? ORDER BY number DESC LIMIT ?",
-                                     ((1 << 62) if before is None else before, most)).fetchall()
+            rows = self.base.execute("SELECT number, at, clerk, task, rule, entered, answer FROM decided WHERE number < ?%s ORDER BY number DESC LIMIT ?" % (HAS_WORD * len(looked)),
+                                     ((1 << 62) if before is None else before, *map(plain, looked), most)).fetchall()
         return [(row[0], Decision(*row[1:])) for row in rows]
 
     def of_task(self, task: str) -> Decision | None:
@@ -75,13 +78,14 @@ class Records:
 
     def see(self, tasks: Iterable[str]) -> None:
         """Notes since when tasks have been here."""
-        new = [task for task in tasks if task not in self.known]
+        now = time.time()
+        new = {task: now for task in tasks if task not in self.known}
         if not new:
             return
         with self.turn:
             try:
                 self.base.execute("BEGIN")
-                self.base.executemany("INSERT OR IGNORE INTO seen VALUES (?, ?)", [(task, time.time()) for task in new])
+                self.base.executemany("INSERT OR IGNORE INTO seen VALUES (?, ?)", list(new.items()))
                 self.base.execute("COMMIT")
                 self.known.update(new)
             except sqlite3.Error as error:
@@ -89,11 +93,9 @@ class Records:
                 if self.base.in_transaction:
                     self.base.execute("ROLLBACK")
 
-    def since(self, tasks: list[str]) -> dict[str, float]:
-        """Since when some tasks have been here."""
-        with self.turn:
-            found = self.base.execute("SELECT task, at FROM seen WHERE task IN (%s)" % ", ".join("?" * len(tasks)), tasks).fetchall()
-        return dict(found)
+    def since(self, task: str) -> float:
+        """Since when a task has been here."""
+        return self.known.get(task, time.time())
 
     def claim(self, task: str, clerk: str) -> None:
         """Notes that a clerk is at a task, in place of whoever was."""

@@ -1,8 +1,8 @@
 """What each page of a desk shows and does. No page needs a script; each works by keyboard alone."""
 from __future__ import annotations
 
+import hashlib
 import secrets
-import time
 from datetime import timedelta
 from pathlib import Path
 
@@ -15,10 +15,11 @@ from aw_forms.program import Sorry
 
 from .book import NotSaid
 from .fields import Field, fields_of
-from .lists import A_PAGE, cuts, ordered, wanted
-from .pages import Answer, Pages, behind, here
+from .lists import A_PAGE, ORDERS, cuts, ordered, wanted
+from .pages import OF_A_FORM, Answer, Pages, behind, here
 from .records import UNSURE
 from .tasks import Task
+from .values import LARGEST
 from .wording import human, moment, titled
 
 LONGEST_BODY, HOURS_OF_SESSION = 1 << 18, 12
@@ -29,13 +30,18 @@ def application(pages: Pages, secret: bytes) -> flask.Flask:
     """The pages as an application of WSGI."""
     app = flask.Flask("aw_desk", template_folder=str(pages.templates), static_folder=None)
     app.config.update(SECRET_KEY=secret, MAX_CONTENT_LENGTH=LONGEST_BODY, MAX_FORM_MEMORY_SIZE=LONGEST_BODY, SESSION_COOKIE_HTTPONLY=True, SESSION_COOKIE_SAMESITE="Strict",
-                      SESSION_COOKIE_NAME="aw_desk", PERMANENT_SESSION_LIFETIME=timedelta(hours=HOURS_OF_SESSION))
+                      SESSION_COOKIE_NAME=cookie_of(secret), PERMANENT_SESSION_LIFETIME=timedelta(hours=HOURS_OF_SESSION))
     app.jinja_env.trim_blocks = app.jinja_env.lstrip_blocks = True
     app.jinja_env.globals.update(human=human, titled=titled)
     guards(app, pages)
     reading(app, pages)
     deciding(app, pages)
     return app
+
+
+def cookie_of(secret: bytes) -> str:
+    """The name of a desk's cookie. A browser has one store of cookies for all ports of a machine, so each desk has a name of its own."""
+    return "aw_desk_" + hashlib.sha256(secret).hexdigest()[:12]
 
 
 def guards(app: flask.Flask, pages: Pages) -> None:
@@ -109,13 +115,13 @@ def reading(app: flask.Flask, pages: Pages) -> None:
         ask = flask.request.args
         tasks = list(desk.open().values())
         words, sort, ready, order = ask.get("words", ""), ask.get("sort", ""), ask.get("ready") == "1", ask.get("order", "old")
-        fit = ordered(wanted(tasks, words, sort, ready, desk.wording), order)
+        fit = ordered(wanted(tasks, words, sort, ready, desk.wording), order, desk.records.since)
         begins = [*cuts(fit), len(fit)]
         last = len(begins) - 2
         at = min(max(int(ask.get("page", "0")) if ask.get("page", "0").isdecimal() else 0, 0), last)
         sorts = sorted({desk.wording.sort(task.name) for task in tasks} | ({sort} if sort else set()))
         keep = {"words": words, "sort": sort, "ready": "1" if ready else "", "order": order}
-        return pages.render("open.html", rows=pages.rows(fit[begins[at]:begins[at + 1]]), fit=len(fit), count=len(tasks), page=at, last=last, sorts=sorts, keep=keep)
+        return pages.render("open.html", rows=pages.rows(fit[begins[at]:begins[at + 1]]), fit=len(fit), count=len(tasks), page=at, last=last, sorts=sorts, orders=ORDERS, keep=keep)
 
     @app.get("/task/<path:name>")
     def task(name: str) -> Answer:
@@ -123,16 +129,27 @@ def reading(app: flask.Flask, pages: Pages) -> None:
         if found is None:
             flask.abort(404)
         if not found.is_open:
-            return pages.render("decided.html", 200, **pages.decided(found))
+            return pages.render("decided.html", 200, **pages.decided(found), others=pages.open_in(found.case))
         claims = desk.records.claims()
         other = claims.get(name, ("", 0.0))
-        since = desk.records.since([name]).get(name, time.time())
         actions = pages.actions(found)
-        given = pages.tree(found.values()[1], lambda at: desk.wording.given(name, at)) if found.values()[1] else ""
-        return pages.render("task.html", task=found, title=desk.wording.task(name), given=given, note=desk.wording.note("sort", desk.wording.sort(name)),
+        return pages.render("task.html", task=found, title=desk.wording.task(name), given=pages.given(found), note=desk.wording.note("sort", desk.wording.sort(name)),
                             can=[action for action in actions if not action.why], cannot=[action for action in actions if action.why], sender=human(desk.wording.sender(name)),
-                            own=desk.wording.sender(name) == desk.role, since=moment(since), claimed="" if other[0] in ("", pages.clerk()) else other[0],
+                            own=desk.wording.sender(name) == desk.role, since=moment(desk.records.since(name)), claimed="" if other[0] in ("", pages.clerk()) else other[0],
                             mine=other[0] == pages.clerk(), at=moment(other[1]) if other[0] else "")
+
+    @app.get("/find")
+    def find() -> Answer:
+        sorts = list(desk.wording.spec.starts)
+        sort, digits = flask.request.args.get("sort", sorts[0] if sorts else ""), flask.request.args.get("number", "").strip()
+        number = number_of(digits)
+        case = "%s#%d" % (sort, number or 0)
+        fault = "Enter a whole number for the case, as 120." if digits and number is None else ""
+        if number is not None and sort in sorts:
+            if not desk.spread.is_here(number) or desk.case(case):
+                return flask.redirect(flask.url_for("case", case=case), 303)
+            fault = "This office knows nothing of %s." % desk.wording.task(case)
+        return pages.render("find.html", 200, sorts=sorts, sort=sort, number=digits, fault=fault)
 
     @app.get("/case/<case>")
     def case(case: str) -> Answer:
@@ -146,21 +163,17 @@ def reading(app: flask.Flask, pages: Pages) -> None:
     def whole(case: str) -> Answer:
         if not desk.journals or not desk.is_case(case):
             flask.abort(404)
-        try:
-            tasks = list(desk.whole(case).values())
-        except NotSaid as error:
-            app.logger.error("%s", error)
-            return pages.render("trouble.html", 503, title="This case can't be shown at all offices now", words="Its part at this office can: see the case at this desk.")
+        tasks, unread = desk.whole(case)
         found, then = pages.some(tasks, behind())
-        return pages.render("whole.html", case=desk.wording.task(case), name=case, tasks=found, then=then)
+        return pages.render("whole.html", case=desk.wording.task(case), name=case, tasks=found, then=then, unread=unread)
 
     @app.get("/decided")
     def decided() -> Answer:
-        before = flask.request.args.get("before", "")
-        found = desk.records.decisions(A_PAGE, int(before) if before.isdecimal() and len(before) < 19 else None)
+        before, words = flask.request.args.get("before", ""), flask.request.args.get("words", "")
+        found = desk.records.decisions(A_PAGE, int(before) if before.isdecimal() and len(before) < 19 else None, words)
         rows = [(note, desk.wording.task(note.task), titled(note.rule) if note.rule else "Begun", moment(note.at), pages.entered(note.rule, note.entered),
                  "" if note.answer == "taken" else "It is not known whether this was done." if note.answer == UNSURE else desk.wording.answer(note.answer)) for _, note in found]
-        return pages.render("log.html", rows=rows, before=found[-1][0] if len(found) == A_PAGE else 0)
+        return pages.render("log.html", rows=rows, words=words, before=found[-1][0] if len(found) == A_PAGE else 0)
 
 
 def deciding(app: flask.Flask, pages: Pages) -> None:
@@ -199,7 +212,7 @@ def deciding(app: flask.Flask, pages: Pages) -> None:
         ready = all(field.is_whole for field in fields)
         if flask.request.method == "GET" and fields or not ready or form.get("back"):
             fault = None if form.get("back") else next((found for field in fields if (found := field.first_fault)), None)
-            return pages.render("form.html", 422 if fault else 200, **more, fault=fault)
+            return pages.render("form.html", 422 if fault else 200, **more, fault=fault, given=pages.given(task, OF_A_FORM))
         entered = [field.value() for field in fields]
         if form.get("send") != "1" or flask.request.method == "GET":
             shown = pages.tree(entered, lambda at: line.params[at].text) if entered else ""
@@ -217,14 +230,20 @@ def deciding(app: flask.Flask, pages: Pages) -> None:
     def begun(sort: str) -> Answer:
         if sort not in desk.starts():
             flask.abort(404)
-        digits = flask.request.form.get("number", "").strip()
-        if not (digits.isascii() and digits.isdigit()) or len(digits.lstrip("0")) > 20 or int(digits) >= 1 << 64:
+        number = number_of(flask.request.form.get("number", "").strip())
+        if number is None:
             told("Enter a whole number for the case, as 120. Nothing was sent.", False)
             return flask.redirect("/begin", 303)
-        said = desk.start(pages.clerk(), sort, int(digits))
-        pages.begun(sort, int(digits))
+        said = desk.start(pages.clerk(), sort, number)
+        pages.begun(sort, number)
         told(said.words, said.done)
-        return flask.redirect(flask.url_for("task", name="%s#%d" % (sort, int(digits))) if said.done else "/begin", 303)
+        return flask.redirect(flask.url_for("task", name="%s#%d" % (sort, number)) if said.done else "/begin", 303)
+
+
+def number_of(digits: str) -> int | None:
+    """A number of a case, as it was entered."""
+    fits = digits.isascii() and digits.isdigit() and len(digits.lstrip("0")) <= 20
+    return int(digits) if fits and int(digits) <= LARGEST else None
 
 
 def hidden(fields: list[Field]) -> list[tuple[str, str]]:

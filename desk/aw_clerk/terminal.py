@@ -19,14 +19,14 @@ from .main import opened, terminal_words
 from .lists import ordered, wanted
 from .records import UNSURE
 from .tasks import Task
-from .values import TEXT
+from .values import BLANK, TEXT
 from .wording import human, moment, titled
 
 NAME = "aw_desk_tty"
-A_SCREEN = 20
+A_SCREEN, MOST_OF_VALUES = 20, 50
 BEHIND = """
 A number chooses; an empty line goes back; `q` ends. `/words` shows the tasks with these words, `n` begins a case,
-`d` shows what was decided here.
+`d` shows what was decided here, `c` a case by its number.
 The statuses are those of `aw_desk`.
 """
 
@@ -64,9 +64,9 @@ class Terminal:
     def run(self) -> None:
         """Shows the open tasks until `q` is typed."""
         while True:
-            tasks = ordered(wanted(list(self.desk.open().values()), self.words, "", False, self.desk.wording), "old")
+            tasks = ordered(wanted(list(self.desk.open().values()), self.words, "", False, self.desk.wording), "old", self.desk.records.since)
             self.screen(tasks)
-            said = self.ask("Number, n, d, + or -, /words, q: ").strip()
+            said = self.ask("Number, n, d, c, + or -, /words, q: ").strip()
             if said == "q":
                 return
             try:
@@ -80,9 +80,15 @@ class Terminal:
         self.at = min(self.at, last)
         print("\n%s: %d open%s" % (titled(self.desk.role), len(tasks), " with “%s”" % self.words if self.words else ""))
         for number, task in enumerate(tasks[self.at * A_SCREEN:(self.at + 1) * A_SCREEN], self.at * A_SCREEN + 1):
-            print("%4d  %s   %s" % (number, titled(self.desk.wording.task(task.name)), ", ".join(map(human, task.ready)) or "waits"))
+            print("%4d  %s" % (number, self.line(task)))
         if last:
             print("      page %d of %d" % (self.at + 1, last + 1))
+
+    def line(self, task: Task) -> str:
+        """A task in a line: its first values in brackets, and what can be done."""
+        wording = self.desk.wording
+        values = ", ".join("?" if kind == BLANK else words.partition("\n")[0] for _, words, kind in trees.brief(wording, trees.lists(wording, task)["given"]))
+        return "%s%s: %s" % (titled(wording.task(task.name)), " (%s)" % (values if len(values) <= MOST_OF_VALUES else values[:MOST_OF_VALUES - 1] + "…") if values else "", ", ".join(map(human, task.ready)) or "waits")
 
     def go(self, said: str, tasks: list[Task]) -> None:
         """Does what was typed at the list."""
@@ -90,6 +96,8 @@ class Terminal:
             self.begin()
         elif said == "d":
             self.decided()
+        elif said == "c":
+            self.case()
         elif said in ("+", "-"):
             self.at = max(self.at + (1 if said == "+" else -1), 0)
         elif said.startswith("/"):
@@ -160,21 +168,41 @@ class Terminal:
             raise Back
         said = self.ask("Number: ", lambda text: "" if not text or text.isdecimal() and 0 < int(text) <= len(notes) else "A number from 1 to %d, or an empty line." % len(notes))
         task = self.desk.task(notes[int(said) - 1].task) if said else None
-        for part, values in (trees.lists(wording, task) if task else {}).items():
+        if task is not None:
+            self.whole(task)
+
+    def whole(self, task: Task) -> None:
+        """Shows what a task was given, what was entered, and its results."""
+        for part, values in trees.lists(self.desk.wording, task).items():
             if values:
-                print("\n".join([titled(part) + ":", *("  " + line for line in trees.lines(wording, values))]))
+                print("\n".join([titled(part) + ":", *("  " + line for line in trees.lines(self.desk.wording, values))]))
+
+    def case(self) -> None:
+        """Shows what this office knows of a case."""
+        sort, number = self.numbered(list(self.desk.wording.spec.starts))
+        tasks = self.desk.case("%s#%d" % (sort, number))
+        if not tasks:
+            print("This office knows nothing of %s." % self.desk.wording.task("%s#%d" % (sort, number)))
+        for task in tasks.values():
+            print("\n%s: %s" % (titled(self.desk.wording.task(task.name)), human(task.rule) or "still open"))
+            self.whole(task)
 
     def begin(self) -> None:
         """Begins a case."""
-        sorts = self.desk.starts()
-        if not sorts:
+        if not self.desk.starts():
             print("No case begins at this desk.")
             raise Back
+        print(self.desk.start(self.clerk, *self.numbered(self.desk.starts())).words)
+
+    def numbered(self, sorts: list[str]) -> tuple[str, int]:
+        """The sort and the number of a case, as they are typed."""
         sort = sorts[0] if len(sorts) == 1 else self.ask("Which (%s): " % ", ".join(map(human, sorts)), choices=sorts).strip().replace(" ", "_")
         if sort not in sorts:
             raise Back
-        number = self.ask("Number of the case: ", number_fault)
-        print(self.desk.start(self.clerk, sort, int(number)).words)
+        number = self.ask("Number of the case: ", lambda text: number_fault(text) if text.strip() else "").strip()
+        if not number:
+            raise Back
+        return sort, int(number)
 
 
 def number_fault(text: str) -> str:

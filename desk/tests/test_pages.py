@@ -83,8 +83,31 @@ def test_a_claim_by_clicks(company: Make) -> None:
         assert not made.log(role).replace("aw_desk: the desk of %s is at http://127.0.0.1:%d/\n" % (role, made.port(role)), "")
 
 
+def test_a_case_whole(company: Make) -> None:
+    """An office that may see all journals is shown each task of a case, under the one that it came from, as its own office knows it."""
+    made = company(TYPED)
+    made.system.start_post()
+    front = made.open_desk("front", "--journals", *map(made.journal, made.roles))
+    assert "No office has begun this case." in front.get("/whole/claim%231").text()
+    for line in ("start claim 1", 'choose claim#1 open_claim {88012, "storm, roof", 12000, "DK50 0040"}'):
+        assert made.system.choose(line) == "taken"
+    settled(made)
+    assert made.system.choose("choose claim#1/open_claim.1 inspect") == "taken"
+    front.get("/case/claim%231")
+    front.follow("The case at all offices")
+    good(front)
+    rows = {name: task for role in made.roles for name, task in tasks_of(made.book("tasks", "--case", "claim#1", made.journal(role))).items()}
+    sections = front.page.source.split('<section class="task">')[1:]
+    assert [section.split("<h2>")[1].split("</h2>")[0] for section in sections] == ["Claim 1", "Assessment, claim 1", "Survey, claim 1", "Decision, claim 1", "Payment, claim 1"]
+    assert len(rows) == 5
+    for section, name in zip(sections, sorted(rows)):
+        assert ("Decided: <strong>" in section) == (not rows[name].is_open)
+    assert sections[1].count("storm, roof") == 1 and "Assessor. Decided: <strong>Inspect" in sections[1] and "Payments. Still open." in sections[4]
+
+
 NESTED = """role shop
 con empty 0
+% What it is, how many of it, and what more.
 con item 3
 sort order shop 0 1
 start order
@@ -107,7 +130,7 @@ def test_values_within_values(company: Make) -> None:
     shop.press("Go on")
     assert "Nothing was sent: What. Choose one." in good(shop) and shop.page.status == 422
     shop.press("Go on", What="item")
-    assert shop.page.status == 200 and "What: item" in good(shop)
+    assert shop.page.status == 200 and "What: item What it is, how many of it, and what more." in good(shop)
     shop.press("Go on", Part_1="lamp <1>", Part_2="many", Goods="item")
     assert shop.page.status == 422 and "Enter a whole number in digits, as 120." in good(shop)
     shop.press("Go on", Part_2="2", Goods="empty")
@@ -237,6 +260,22 @@ def test_two_clerks(company: Make, tmp_path: Path) -> None:
     logins.write_text(line_of("bob", "battery staple") + "\n", encoding="utf-8")
     time.sleep(0.01)
     assert "Sign in" in ada.get("/").text(), "who is taken out of the file is out"
+
+
+def test_two_desks_in_one_browser(company: Make) -> None:
+    """A browser has the same cookies at each port of a machine: a form of one desk can be sent after a look at another."""
+    made = company(TYPED)
+    front, assessor = made.open_desk("front"), made.open_desk("assessor")
+    assessor.cookies = front.cookies
+    front.get("/begin")
+    assessor.get("/")
+    front.press("Begin claim", Number_of_the_case="1")
+    assert "Claim 1 has begun." in good(front)
+    assessor.get("/")
+    front.follow("Open claim")
+    assessor.get("/decided")
+    front.press("Go on", Policy="1", What="w", Asked="2", Number="n")
+    assert "send this?" in good(front) and len(front.cookies) == 2
 
 
 def test_a_race_of_two_choices(company: Make, tmp_path: Path) -> None:

@@ -1,9 +1,11 @@
 """What pages show of anything that a book may say: bytes that are no UTF-8, large values, long names, many tasks; and by which names a desk is asked."""
 from __future__ import annotations
 
+import html
 import re
 import time
 from pathlib import Path
+from urllib.parse import unquote
 
 import pytest
 from conftest import CLAIM_TEXT, TOP
@@ -24,8 +26,8 @@ class Told:
     def __init__(self, folder: Path, monkeypatch: pytest.MonkeyPatch) -> None:
         self.tasks: list[str] = []
         self.said = {"spec": CLAIM_TEXT.splitlines(), "check": ["sound assessor events 0 bytes 700 behind 0 assessor.journal"]}
-        monkeypatch.setattr(book, "said", lambda *words: self.tasks if words[0] in ("tasks", "cases") else self.said.get(words[0], []))
-        monkeypatch.setattr(book.Follower, "lines", lambda _: self.tasks)
+        monkeypatch.setattr(book, "said", lambda *words: self.tasks if words[0] == "tasks" else self.said.get(words[0], []))
+        monkeypatch.setattr(book.Follower, "lines", lambda _: [line for line in self.tasks if line.startswith("item ") or line.split(" ", 2)[1] == "open"])
         (folder / "form.aw").write_bytes(b"% \xff a comment\n" + CLAIM_TEXT.encode())
         self.desk = Desk(str(folder / "form.aw"), "assessor.journal", folder, None, ["assessor.journal"])
         self.browser = application(Pages(self.desk, None, TOP / "desk" / "aw_clerk" / "templates"), b"s" * 32).test_client()
@@ -75,9 +77,9 @@ def test_many_tasks_with_names_of_any_length(told: Told, steps: int) -> None:
     found, page, text = list[str](), 0, ">Later"
     while ">Later" in text:
         text = told.page("/?page=%d" % page)
-        found += re.findall(r'<h2><a href="/task/([^"]*)">', text)
+        found += names_of(text)
         page += 1
-    assert [name.replace("%23", "#") for name in found] == names
+    assert found == names
 
 
 @pytest.mark.parametrize("path", ["case", "whole"])
@@ -91,6 +93,76 @@ def test_a_case_of_many_tasks_in_parts(told: Told, path: str) -> None:
         further = re.search(r'<a href="([^"]*)">Further tasks', text)
         url = further[1] if further else ""
     assert count == len(names)
+
+
+def names_of(text: str) -> list[str]:
+    """The tasks of a list, in its order."""
+    return [unquote(name) for name in re.findall(r'<h2><a href="/task/([^"]*)">', text)]
+
+
+def test_lists_in_order(told: Told) -> None:
+    """By number, or by the time since when a task has been here; tasks that came together are by number."""
+    names = ["claim#%d/open_claim.1" % number for number in (30, 20, 10, 40)]
+    for known in (names[:1], names[:3], names):
+        told.tasks = [line for name in known for line in assessment(name, "w")]
+        told.page("/")
+    thirty, twenty, ten, forty = names
+    for order, want in (("old", [ten, twenty, thirty, forty]), ("new", [forty, thirty, twenty, ten]), ("long", [thirty, ten, twenty, forty]), ("late", [forty, ten, twenty, thirty])):
+        assert names_of(told.page("/?order=" + order)) == want, order
+
+
+def test_a_case_is_found_by_its_number(told: Told) -> None:
+    told.tasks = ['claim#7/open_claim.1 deny {"why"} (damage(1, "w", 2)) <denied("why")>']
+    assert 'aria-current="page">Find a case' in told.page("/find")
+    assert told.browser.get("/find?number=7").headers["Location"] == "/case/claim%237" and told.browser.get("/find?sort=claim&number=007").status_code == 303
+    told.tasks = []
+    for number, words in (("8", "This office knows nothing of claim 8."), ("x", "Enter a whole number"), ("9" * 30, "Enter a whole number"), ("-1", "Enter a whole number")):
+        assert words in told.page("/find?number=" + number), number
+    for query in ("", "?number=", "?sort=assessment&number=7", "?sort=%3Cb%3E&number=7", "?sort=%ff"):
+        assert "<b>" not in told.page("/find" + query)
+
+
+def test_what_was_decided_is_found_by_words(told: Told) -> None:
+    """By the clerk, the case, the rule and what was entered, in any order; each page of what was found leads to the next."""
+    records = told.desk.records
+    for number in range(1, 101):
+        records.decide("ada" if number % 2 else "bob", "claim#%d/open_claim.1" % number, "deny", '{"below the excess"}' if number % 3 else '{"Æ\udcff"}', "taken")
+
+    def found(words: str) -> list[int]:
+        numbers, url = list[int](), "/decided?words=" + words
+        while url:
+            text = told.page(url)
+            numbers += [int(number) for number in re.findall(r"/task/claim%23(\d+)/", text)]
+            further = re.search(r'<a href="([^"]*)">Earlier', text)
+            url = html.unescape(further[1]) if further else ""
+        return numbers
+    assert found("") == list(range(100, 0, -1))
+    assert found("excess+ADA") == [number for number in range(100, 0, -1) if number % 2 and number % 3]
+    assert found("claim+77") == [77] and found("%5Cxff") == [number for number in range(100, 0, -1) if not number % 3]
+    assert found("grant") == [] and "No decision at this desk has these words." in told.page("/decided?words=grant")
+    assert found("%25") == [] and found("'+OR+1=1") == [] and found("+".join(["deny"] * 900)) == list(range(100, 0, -1))
+
+
+def test_a_form_shows_what_was_given(told: Told) -> None:
+    told.tasks = assessment("claim#1/open_claim.1", "a <roof>")
+    text = told.page("/do/grant/claim%231/open_claim.1")
+    assert text.index("What was given") < text.index("a &lt;roof&gt;") < text.index(">Amount<")
+    told.tasks = assessment("claim#1/open_claim.1", "&" * 100_000)
+    told.page("/do/grant/claim%231/open_claim.1")
+
+
+def test_a_decided_task_leads_to_what_is_open_in_its_case(told: Told) -> None:
+    name = "claim#1/open_claim.1"
+    told.tasks = ['%s inspect {} (damage(1, "w", 2)) <?%s/inspect.2:r1>' % (name, name), '%s/inspect.1 open ("w") <?%s/inspect.1:r1>' % (name, name),
+                  *assessment("claim#11/open_claim.1", "w")]
+    text = told.page("/task/claim%231/open_claim.1")
+    assert re.findall(r'<li><a href="([^"]*)">(.*?)</a>', text) == [("/task/claim%231/open_claim.1/inspect.1", "Survey, claim 1")]
+
+
+def test_nobody_is_told_where_nobody_signs_in(told: Told) -> None:
+    """A desk without logins has one clerk, so nothing is said of who is at a task."""
+    told.tasks = assessment("claim#1/open_claim.1", "w")
+    assert "Tell others" not in told.page("/task/claim%231/open_claim.1")
 
 
 @pytest.mark.parametrize("host, status", [("127.0.0.1:8401", 200), ("localhost", 200), ("[::1]:9000", 200), ("", 403), ("evil.example", 403),
@@ -108,20 +180,25 @@ def test_a_field_for_a_day() -> None:
 
 def test_what_is_wrong_is_said_first_and_has_the_focus(told: Told) -> None:
     told.tasks = assessment("claim#1/open_claim.1", "w")
-    token = re.search(r'name="token" value="([^"]*)"', told.page("/task/claim%231/open_claim.1"))[1]
+    token = re.search(r'name="token" value="([^"]*)"', told.page("/do/grant/claim%231/open_claim.1"))[1]
     form = {"token": token, "f0.is": "number", "f0": "many", "f0.seen": "1"}
     answer = told.browser.post("/do/grant/claim%231/open_claim.1", data=form)
     text = answer.get_data(as_text=True)
     assert answer.status_code == 422 and 'role="alert">Nothing was sent: Amount. Enter a whole number in digits' in text and text.count(" autofocus") == 1
 
 
-def test_a_book_without_cases(told: Told, monkeypatch: pytest.MonkeyPatch) -> None:
-    """Where whole cases can't be told, everything else can."""
+def test_a_case_where_journals_cannot_be_read(told: Told, monkeypatch: pytest.MonkeyPatch) -> None:
+    """The others are shown, and that some are missing."""
     told.tasks = assessment("claim#1/open_claim.1", "w")
-    told.page("/case/claim%231")
+    told.desk.journals.append("front.journal")
 
-    def fails(*words: str) -> list[str]:
-        raise book.NotSaid("error: unrecognized subcommand 'cases'")
-    monkeypatch.setattr(book, "said", fails)
-    answer = told.browser.get("/whole/claim%231")
-    assert answer.status_code == 503 and "can&#39;t be shown at all offices now" in answer.get_data(as_text=True).replace("'", "&#39;")
+    def some(*words: str) -> list[str]:
+        if words[-1] == "front.journal":
+            raise book.NotSaid("front.journal: no such file")
+        return told.tasks
+    monkeypatch.setattr(book, "said", some)
+    text = told.page("/whole/claim%231")
+    assert "The journal of one office can't be read now" in html.unescape(text) and "Assessment, claim 1" in text
+    told.desk.journals[:] = ["front.journal"] * 2
+    text = told.page("/whole/claim%231")
+    assert "The journals of 2 offices can't be read now" in html.unescape(text) and "No office has begun" not in text

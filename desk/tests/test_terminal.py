@@ -86,6 +86,26 @@ def test_a_claim_by_keys(company: Make, screens: Callable[[list[str]], Screen]) 
     screen.type("d", "ada: Claim 12: open claim")
     screen.type("1", "not there yet: assessor owes it, at assessment, claim 12")
     assert "Number: DK50 0040" in screen.shown()
+    screen.type("c", "Number of the case:")
+    screen.type("12", "Claim 12: open claim")
+    screen.type("q", "ended 0")
+
+
+def test_a_list_with_values_and_a_case_by_its_number(company: Make, screens: Callable[[list[str]], Screen]) -> None:
+    made = company(TYPED)
+    made.system.start_post()
+    made.system.choose("start claim 1")
+    assert made.system.choose('choose claim#1 open_claim {88012, "\u009b31mstorm\\nroof", 12000, "DK50 0040"}') == "taken"
+    until(lambda: tasks_of(made.book("tasks", made.journal("assessor"))), "the letter did not come")
+    screen = screens(["/usr/bin/python3", str(TOP / "desk" / "aw_desk_tty"), str(made.system.spec), made.journal("assessor"), str(made.folder / "tty")])
+    screen.wait("Assessment, claim 1 (88012, \\x9b31mstorm, 12000): grant, deny, inspect")
+    screen.type("c", "Number of the case:")
+    screen.type("1", "Assessment, claim 1: still open")
+    assert "Asked: 12000" in screen.shown()
+    screen.type("c", "Number of the case:")
+    screen.type("2", "This office knows nothing of claim 2.")
+    screen.type("c", "Number of the case:")
+    screen.type("", "Assessor: 1 open")
     screen.type("q", "ended 0")
 
 

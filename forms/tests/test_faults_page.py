@@ -18,6 +18,7 @@ from aw_forms.program import ask
 PAGE = TOP / "docs" / "FAULTS.md"
 ALONE = ["unshare", "-n", "-p", "-f", "--kill-child", "--mount-proc", "sh", "-c", 'ip link set lo up && exec "$@"', "sh"]
 LISTENING = "until grep -q ':1CE8 .* 0A ' /proc/net/tcp; do sleep 0.05; done"
+MEND = re.compile(r"Mend: (?:leave it out, or )?`([^`]*)`")
 BOX = re.compile(r"^```\w*\n(.*?)^```$", re.MULTILINE | re.DOTALL)
 
 
@@ -60,36 +61,46 @@ def says_of_check(box: str, quoted: str, refused: bool) -> None:
 @pytest.mark.parametrize("part, case", [(part, case) for part in ("Of a specification", "Of types", "Circles", "Warnings of `check`") for case in cases(part)],
                          ids=lambda value: value if isinstance(value, str) else value[0])
 def test_texts_that_check_refuses(part: str, case: tuple[str, str]) -> None:
-    """A box with a quoted line behind it is refused so; one without is its mend, and accepted without a warning."""
+    """A box is refused by the line that is quoted behind it; with the line of its mend it is accepted without a warning."""
     warning = part.startswith("Warnings")
     for box, behind in boxes(case[1]):
         quoted = re.match(r"\s*`(bad [^`]*|circular [^`]*|role [^`]*|wait [^`]*)`", behind)
-        if quoted:
-            says_of_check(box, quoted[1], not warning)
-            assert quoted[1] in tool("aw_explain", "-", data=box.encode()).stdout
-        else:
-            lines = ask(["check"], box.encode()).output.split("\n")
-            assert lines[0] == "accepted" and not any("exceeds" in line or "circular" in line or "wait circle" in line for line in lines), box
+        says_of_check(box, quoted[1], not warning)
+        assert quoted[1] in tool("aw_explain", "-", data=box.encode()).stdout
+        mend = MEND.search(behind)
+        if mend:
+            assert any(is_clean(text) for text in mended(box, mend[1])), (box, mend[1])
+
+
+def mended(box: str, line: str) -> list[str]:
+    """The box with a line put in place of each line of its form, or put in anywhere."""
+    lines = box.split("\n")[:-1]
+    put = [lines[:at] + [line] + lines[at + 1:] for at in range(len(lines)) if lines[at].split()[0] == line.split()[0]]
+    put += [lines[:at] + [line] + lines[at:] for at in range(len(lines) + 1)]
+    return ["\n".join(text) + "\n" for text in put]
+
+
+def is_clean(text: str) -> bool:
+    """`check` accepts it and writes no warning."""
+    lines = ask(["check"], text.encode()).output.split("\n")
+    return lines[0] == "accepted" and not any("exceeds" in line or "circular" in line or "wait circle" in line for line in lines)
 
 
 @pytest.mark.parametrize("case", cases("Of a schedule"), ids=lambda case: case[0])
 def test_schedules_that_are_refused(case: tuple[str, str]) -> None:
-    """The first schedule is refused by the quoted line, and all choices of its mend are taken."""
-    base, told = base_of("Of a schedule"), 0
+    """The schedule is refused by the quoted line, and with the line of its mend all choices are taken."""
+    base = base_of("Of a schedule")
     for box, behind in boxes(case[1]):
         if box.startswith("role "):
             base = box
-            continue
-        data = (base + "schedule\n" + box).encode()
-        quoted = re.match(r"\s*`(bad schedule [^`]*)`", behind)
-        answer = ask(["replay"], data)
-        if quoted:
-            told += 1
-            assert (answer.output, answer.status) == (quoted[1] + "\n", 5)
-            assert quoted[1] in tool("aw_explain", "-", data=data).stdout
-        else:
-            taken(answer.output)
-    assert told == 1
+    quoted = re.match(r"\s*`(bad schedule line (\d+) [^`]*)`", behind)
+    line = int(quoted[2])
+    lines = (base + "schedule\n" + box).split("\n")
+    answer = ask(["replay"], "\n".join(lines).encode())
+    assert (answer.output, answer.status) == (quoted[1] + "\n", 5)
+    assert quoted[1] in tool("aw_explain", "-", data="\n".join(lines).encode()).stdout
+    lines[line - 1] = MEND.search(behind)[1]
+    taken(ask(["replay"], "\n".join(lines).encode()).output)
 
 
 def taken(output: str) -> None:
@@ -98,15 +109,15 @@ def taken(output: str) -> None:
     assert answers and set(answers) == {"taken"} and "\nartifacts " in output, output
 
 
-@pytest.mark.parametrize("case", cases("Answers to choices and deliveries"), ids=lambda case: case[0])
-def test_answers(case: tuple[str, str]) -> None:
-    """The quoted lines come of the first schedule, and all choices of the second are taken."""
-    base = base_of("Answers to choices and deliveries")
-    (first, behind), (second, _) = boxes(case[1])[:2]
-    output = ask(["replay"], (base + "schedule\n" + first).encode()).output
-    quoted = re.findall(r"`([a-z]+ [^`]*)`", behind.split(". ")[0])
-    assert quoted and all(line in output.split("\n") for line in quoted), output
-    taken(ask(["replay"], (base + "schedule\n" + second).encode()).output)
+def test_answers() -> None:
+    """Each line of the table comes of the schedule, in its order."""
+    part = "Answers to choices and deliveries"
+    ((_, text),) = cases(part)
+    ((schedule, behind),) = boxes(text)
+    output = ask(["replay"], (base_of(part) + "schedule\n" + schedule).encode()).output.split("\n")
+    shown = re.findall(r"^\| `([^`]+)` \|", behind, re.MULTILINE)
+    assert len(shown) > 8 and shown == [line for line in output if line in shown], output
+    assert all(line in shown for line in output if not re.match(r".*: (taken|new)$|sent |settled |$", line)), output
 
 
 def commands(text: str, folder: Path) -> list[tuple[str, str]]:

@@ -89,6 +89,113 @@ def test_what_is_no_whole_journal_is_said_so(clinic: System, tmp_path: Path) -> 
     assert book("check", tmp_path / "damaged")[0] == book("check", tmp_path / "headless")[0] == 1
 
 
+def records(data: bytes) -> list[bytes]:
+    """The head of a journal with its gate, and each record that counts, as docs/JOURNAL.md has the file."""
+    at = 11 + int.from_bytes(data[3:11], "big")
+    parts = [data[:at]]
+    while data[at] == 1:
+        end = at + 9 + int.from_bytes(data[at + 1:at + 9], "big")
+        parts.append(data[at:end])
+        at = end
+    return parts
+
+
+def test_tasks_are_those_of_the_undivided_run(clinic: System) -> None:
+    """All tasks, those of one case, the open ones, and the items of these alone."""
+    assert clinic.joined()
+    for role in clinic.offices.roles:
+        file = journal(clinic, role)
+        status, lines, sentences = book("tasks", file)
+        assert (status, sentences) == (0, [])
+        open_lines = book("tasks", "--open", file)[1]
+        assert open_lines == [line for line in lines if line.startswith("item ") or line.split()[1] == "open"]
+        cases = sorted({re.split("[/ ]", line.removeprefix("item "))[0] for line in lines})
+        parts = [book("tasks", "--case", case, file)[1] for case in cases]
+        assert sorted(line for part in parts for line in part) == sorted(lines) and len(cases) > 0
+        assert all(re.split("[/ ]", line.removeprefix("item "))[0] == case for case, part in zip(cases, parts, strict=True) for line in part)
+        items = {" ".join(line.split()[1:3]) for line in lines if line.startswith("item ")}
+        assert {item.split()[0] for item in items} == {line.split()[0] for line in lines if not line.startswith("item ") and line.split()[1] == "open"}
+    assert book("tasks", "--case", "visit", journal(clinic, "lab"))[0] == 2
+    assert book("tasks", "--case", "visit#9", journal(clinic, "lab")) == (0, [], [])
+    status, lines, sentences = book("tasks", "--case", "nothing#1", journal(clinic, "lab"))
+    assert status == 1 and not lines and len(sentences) == 1
+
+
+def test_tasks_are_followed(clinic: System, tmp_path: Path) -> None:
+    """Each line is answered by what stands there then; a file that got shorter ends it."""
+    file = tmp_path / "clinic.journal"
+    file.write_bytes(journal(clinic, "clinic").read_bytes())
+    with subprocess.Popen([str(BOOK), "tasks", "--follow", str(file)], stdin=subprocess.PIPE, stdout=subprocess.PIPE, stderr=subprocess.PIPE) as child:
+        assert child.stdin and child.stdout and child.stderr
+
+        def answer() -> list[str]:
+            lines = list(iter(lambda: child.stdout.readline().decode().rstrip("\n"), ""))
+            return lines
+        first = answer()
+        assert first == book("tasks", file)[1]
+        assert clinic.choose("choose visit#2 admit {\"Ben\", 8, glucose}") == "taken"
+        file.write_bytes(journal(clinic, "clinic").read_bytes())
+        child.stdin.write(b"again\n")
+        child.stdin.flush()
+        second = answer()
+        assert second == book("tasks", file)[1] != first
+        file.write_bytes(file.read_bytes()[:40])
+        child.stdin.write(b"\n")
+        child.stdin.flush()
+        assert answer() == [] and child.wait(LONG) == 3 and len(child.stderr.read().splitlines()) == 1
+
+
+def test_an_event_that_is_none_is_named(clinic: System, tmp_path: Path) -> None:
+    """A journal without its first event: the first one that needs it does not fit, and a node would not start."""
+    data = journal(clinic, "clinic").read_bytes()
+    parts = records(data)
+    (tmp_path / "whole").write_bytes(data)
+    (tmp_path / "broken").write_bytes(parts[0] + b"".join(parts[2:]) + data[len(b"".join(parts)):])
+    assert book("check", "--redo", tmp_path / "whole")[0] == 0
+    assert book("check", tmp_path / "broken")[0] == 0
+    status, lines, sentences = book("check", "--redo", tmp_path / "broken")
+    assert status == 1 and len(lines) == len(sentences) == 1 and lines[0].startswith("sound clinic events %d " % (len(parts) - 2))
+    number = int(re.findall(r" event (\d+) ", sentences[0])[0])
+    named = book("events", tmp_path / "broken")[1][number - 1]
+    assert "visit#1" in named and not any("visit#1" in line for line in book("events", tmp_path / "broken")[1][:number - 1])
+    status, lines, sentences = book("tasks", tmp_path / "broken")
+    assert status == 1 and not lines and len(sentences) == 1 and " event %d " % number in sentences[0]
+
+
+def test_a_journal_goes_on_from_an_older_copy(clinic: System, tmp_path: Path) -> None:
+    """It does from what it was; not from what it becomes, and not from that of another office."""
+    file = journal(clinic, "clinic")
+    old, new = tmp_path / "old", tmp_path / "new"
+    old.write_bytes(file.read_bytes())
+    assert clinic.choose("choose visit#2 admit {\"Ben\", 8, glucose}") == "taken"
+    new.write_bytes(file.read_bytes())
+    (tmp_path / "set_back").write_bytes(old.read_bytes())
+    (tmp_path / "cut").write_bytes(new.read_bytes()[:-1])
+    (tmp_path / "head").write_bytes(records(new.read_bytes())[0] + b"\0")
+    (tmp_path / "none").write_bytes(b"no journal")
+    for older, newer, status in ((old, new, 0), (old, old, 0), (tmp_path / "head", new, 0), (new, old, 1), (old, tmp_path / "cut", 0), (new, tmp_path / "cut", 1),
+                                 (journal(clinic, "lab"), new, 1), (tmp_path / "none", new, 1), (tmp_path / "nobody", new, 3), (tmp_path, new, 3)):
+        got = book("check", "--begins-with", older, newer)
+        assert (got[0], len(got[2])) == (status, 1 if status else 0), (older.name, newer.name, got)
+    # Many files, each against the one copy.
+    got = book("check", "--begins-with", old, new, tmp_path / "none", tmp_path / "set_back")
+    assert got[0] == 1 and len(got[1]) == 3 and len(got[2]) == 1
+
+
+def test_output_that_nobody_reads_is_told(clinic: System) -> None:
+    """A closed pipe, and a full device."""
+    for command in (["events"], ["tasks"], ["check"], ["spec"]):
+        words = [str(BOOK), *command, str(journal(clinic, "clinic"))]
+        with open("/dev/full", "wb") as full:
+            ran = subprocess.run(words, stdout=full, stderr=subprocess.PIPE, timeout=LONG, check=False)
+        assert ran.returncode == 4 and len(ran.stderr.splitlines()) == 1, command
+        left, right = os.pipe()
+        os.close(left)
+        ran = subprocess.run(words, stdout=right, stderr=subprocess.PIPE, timeout=LONG, check=False)
+        os.close(right)
+        assert ran.returncode == 4 and len(ran.stderr.splitlines()) == 1, command
+
+
 def test_words_that_are_no_command() -> None:
     """A sentence and status 2; `--help` and `--version` are answered."""
     for words in ((), ("nothing",), ("check",), ("events", "--digest", "x")):

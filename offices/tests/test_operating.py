@@ -28,9 +28,8 @@ class Terminal:
         bin_.mkdir()
         for name, path in {"aw": os.environ["AW"], **{n: OFFICES / n for n in ("aw_post", "aw_guard", "aw_carry_over")}}.items():
             (bin_ / name).symlink_to(path)
-        (bin_ / "client.py").write_text("#!/bin/sh\nexec /usr/bin/python3 %s \"$@\"\n" % (EXAMPLES / "client.py"), encoding="utf-8")
-        (bin_ / "client.py").chmod(0o755)
-        (folder / "insurance-claim.aw").write_bytes((EXAMPLES / "insurance-claim.aw").read_bytes())
+        for name in ("insurance-claim.aw", "client.py"):
+            (folder / name).write_bytes((EXAMPLES / name).read_bytes())
         self.environment = {**os.environ, "PATH": "%s:/usr/sbin:/usr/bin:/sbin:/bin" % bin_}
 
     def type(self, command: str) -> str:
@@ -92,7 +91,7 @@ def test_completions_and_man_page_have_every_option_of_the_book() -> None:
     commands = re.findall(r"^  ([a-z]+) ", helped.split("Commands:")[1].split("Options:")[0], re.M)
     for command in [command for command in commands if command != "help"]:
         assert all(command in text for text in texts) and "*aw_book %s*" % command in man, command
-        options = re.findall(r"--([a-z]+)", subprocess.run([str(BOOK), command, "--help"], capture_output=True, text=True, timeout=LONG).stdout)
+        options = re.findall(r"--([a-z-]+[a-z])", subprocess.run([str(BOOK), command, "--help"], capture_output=True, text=True, timeout=LONG).stdout)
         for option in set(options) - {"help", "version"}:
             assert all(option in text for text in texts) and "*--%s*" % option in man, (command, option)
 

@@ -26,7 +26,7 @@ _aw_book() {
   if [ "$COMP_CWORD" -eq 1 ]; then
     mapfile -t COMPREPLY < <(compgen -W "spec check events tasks --help --version" -- "$word")
   elif [[ $word == -* ]]; then
-    mapfile -t COMPREPLY < <(compgen -W "--digest --redo --open --case --follow --help" -- "$word")
+    mapfile -t COMPREPLY < <(compgen -W "--digest --redo --begins-with --open --case --follow --help" -- "$word")
   else
     mapfile -t COMPREPLY < <(compgen -f -- "$word")
   fi

@@ -1346,93 +1346,6 @@ impl<const T: bool, M: Mask> World<T, M> {
         n
     }
 
-    /// The last node named in a case, or its nearest ancestor whose whole name begins `name`,
-    /// which starts with the root's name; with the length of its name, where it was written.
-    pub fn resume(&self, sort: u16, case: u64, name: &[u8]) -> Resume {
-        let slot = self.root_table[self.root_slot(sort, case)];
-        if slot == 0 {
-            return Resume { node: NONE, sort, depth: 0, len: 0 };
-        }
-        let root = &self.roots[slot as usize - 1];
-        let mut n = root.cursor;
-        let d = &self.nodes[n as usize];
-        if d.name_at != NONE {
-            let same = common(self.name_of(n), name);
-            loop {
-                let d = &self.nodes[n as usize];
-                let len = d.name_len as usize;
-                if d.name_at != NONE && len <= same && !name.get(len).is_some_and(|b| *b != b'/' && is(*b, WORD)) {
-                    return Resume { node: n, sort: d.sort, depth: d.depth, len };
-                }
-                if d.depth == 0 {
-                    break;
-                }
-                n = d.parent;
-            }
-        }
-        Resume { node: root.node, sort, depth: 0, len: 0 }
-    }
-
-    pub fn event(&mut self, e: Event, s: &Sched) {
-        match e {
-            Event::Start { sort, case } => {
-                self.out.lit(b"start ");
-                self.out.short(&self.texts.sorts[sort as usize]);
-                self.out.byte(b' ');
-                self.out.num(case);
-                match self.start(sort, case) {
-                    Answer::Taken => self.out.lit(b": taken\n"),
-                    _ => self.out.lit(b": known\n"),
-                }
-            }
-            Event::Choose { rule } => {
-                let n = self.find(s);
-                self.out.lit(b"choose ");
-                let at = self.out.len;
-                self.out.slice(self.src, s.name.0, s.name.1 - s.name.0);
-                if n != NONE && self.nodes[n as usize].name_at == NONE {
-                    self.keep_name(n, at);
-                }
-                self.out.byte(b' ');
-                self.out.short(&self.texts.rules[rule as usize]);
-                self.out.lit(b": ");
-                let a = self.choose(n, rule, &s.args, s.count);
-                self.put_answer(&a, rule);
-                self.out.byte(b'\n');
-                if let Answer::Taken = a {
-                    self.after_choice(n, &self.progs[rule as usize]);
-                }
-            }
-            _ if self.plain => {}
-            Event::Deliver(k) => {
-                if self.deliver_event(k).is_none() {
-                    self.out.lit(b"deliver ");
-                    self.out.num(k);
-                    self.out.lit(b": no message\n");
-                }
-            }
-            Event::Settle => {
-                let n = self.settle();
-                self.out.lit(b"settled ");
-                self.out.num(n);
-                self.out.byte(b'\n');
-            }
-            Event::List(role) => self.list(role),
-        }
-    }
-
-    pub fn finish(&mut self) {
-        if self.undelivered > 0 {
-            self.out.lit(b"undelivered ");
-            self.out.num(self.undelivered);
-            return self.out.byte(b'\n');
-        }
-        self.out.lit(b"artifacts ");
-        self.out.num(self.held);
-        self.out.byte(b'\n');
-        self.artifacts();
-    }
-
     pub fn counts(&self) -> (u64, u64) {
         (self.msgs.len() as u64, self.held)
     }
@@ -1606,6 +1519,97 @@ impl<const T: bool, M: Mask> World<T, M> {
                 first = false;
             }
         }
+    }
+}
+
+impl<M: Mask> Replayed for World<true, M> {
+    fn resume(&self, sort: u16, case: u64, name: &[u8]) -> Resume {
+        let slot = self.root_table[self.root_slot(sort, case)];
+        if slot == 0 {
+            return Resume { node: NONE, sort, depth: 0, len: 0 };
+        }
+        let root = &self.roots[slot as usize - 1];
+        let mut n = root.cursor;
+        let d = &self.nodes[n as usize];
+        if d.name_at != NONE {
+            let same = common(self.name_of(n), name);
+            loop {
+                let d = &self.nodes[n as usize];
+                let len = d.name_len as usize;
+                if d.name_at != NONE && len <= same && !name.get(len).is_some_and(|b| *b != b'/' && is(*b, WORD)) {
+                    return Resume { node: n, sort: d.sort, depth: d.depth, len };
+                }
+                if d.depth == 0 {
+                    break;
+                }
+                n = d.parent;
+            }
+        }
+        Resume { node: root.node, sort, depth: 0, len: 0 }
+    }
+
+    fn event(&mut self, e: Event, s: &Sched) {
+        match e {
+            Event::Start { sort, case } => {
+                self.out.lit(b"start ");
+                self.out.short(&self.texts.sorts[sort as usize]);
+                self.out.byte(b' ');
+                self.out.num(case);
+                match self.start(sort, case) {
+                    Answer::Taken => self.out.lit(b": taken\n"),
+                    _ => self.out.lit(b": known\n"),
+                }
+            }
+            Event::Choose { rule } => {
+                let n = self.find(s);
+                self.out.lit(b"choose ");
+                let at = self.out.len;
+                self.out.slice(self.src, s.name.0, s.name.1 - s.name.0);
+                if n != NONE && self.nodes[n as usize].name_at == NONE {
+                    self.keep_name(n, at);
+                }
+                self.out.byte(b' ');
+                self.out.short(&self.texts.rules[rule as usize]);
+                self.out.lit(b": ");
+                let a = self.choose(n, rule, &s.args, s.count);
+                self.put_answer(&a, rule);
+                self.out.byte(b'\n');
+                if let Answer::Taken = a {
+                    self.after_choice(n, &self.progs[rule as usize]);
+                }
+            }
+            _ if self.plain => {}
+            Event::Deliver(k) => {
+                if self.deliver_event(k).is_none() {
+                    self.out.lit(b"deliver ");
+                    self.out.num(k);
+                    self.out.lit(b": no message\n");
+                }
+            }
+            Event::Settle => {
+                let n = self.settle();
+                self.out.lit(b"settled ");
+                self.out.num(n);
+                self.out.byte(b'\n');
+            }
+            Event::List(role) => self.list(role),
+        }
+    }
+
+    fn finish(&mut self) {
+        if self.undelivered > 0 {
+            self.out.lit(b"undelivered ");
+            self.out.num(self.undelivered);
+            return self.out.byte(b'\n');
+        }
+        self.out.lit(b"artifacts ");
+        self.out.num(self.held);
+        self.out.byte(b'\n');
+        self.artifacts();
+    }
+
+    fn out(&self) -> &Out {
+        &self.out
     }
 }
 

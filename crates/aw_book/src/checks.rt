@@ -1,6 +1,7 @@
 //! What is told of how a file stands.
 
 use crate::faults::{BookStop, FileFault};
+use crate::redoing::redo_all;
 use aw_base::role_name;
 use aw_book_read::{Checked, HeadFault, HeadText, Seen, check, open_head, push_check};
 use aw_disk::Pages;
@@ -57,7 +58,7 @@ fn line_of(
 }
 
 /// Writes the line of a file of this name: how it stands, with a digest of what counts where that is asked for; and tells what is wrong with it.
-pub fn tell_check<P: Pages, K: Sink>(
+fn tell_line<P: Pages, K: Sink>(
     alloc: Global,
     name: &[u8],
     pages: &mut P,
@@ -73,4 +74,19 @@ pub fn tell_check<P: Pages, K: Sink>(
     let fault = line_of(alloc, &seen, name, &mut text)?;
     write_all(out, text.as_slice())?;
     Ok(fault)
+}
+
+/// Writes the line of a file, and where that is asked for, and nothing is wrong, does the events of the journal again.
+pub fn tell_check<P: Pages, K: Sink>(
+    alloc: Global,
+    name: &[u8],
+    pages: &mut P,
+    digest: bool,
+    redo: bool,
+    out: &mut K,
+) -> Result<Option<FileFault>, BookStop> {
+    match tell_line(alloc, name, pages, digest, out)? {
+        None if redo => redo_all(alloc, pages),
+        fault => Ok(fault),
+    }
 }

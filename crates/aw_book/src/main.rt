@@ -1,22 +1,31 @@
 //! The program `aw_book`: it reads the journals of nodes, and changes none.
 #![tactic(auto)]
 
+mod asked;
 mod checks;
 mod events;
 mod faults;
+mod following;
 mod heads;
+mod older;
 mod reading;
+mod redoing;
 mod sentences;
+mod tasks;
 mod words;
 
+use crate::asked::{Asked, TaskView};
 use crate::checks::tell_check;
 use crate::events::tell_events;
 use crate::faults::{BookStop, FileFault};
+use crate::following::follow_tasks;
 use crate::heads::tell_spec;
+use crate::older::tell_older;
 use crate::sentences::{sentence_of, status_of, stop_sentence, stop_status};
-use crate::words::{Asked, command, words_of};
+use crate::tasks::tell_tasks;
+use crate::words::{Words, command, words_of};
 use aw_disk::FilePages;
-use aw_out::StdSink;
+use aw_out::{StdSink, StdSource};
 use std::env;
 use std::fs::File;
 use std::process::ExitCode;
@@ -39,10 +48,65 @@ fn tell_file<R: Files<File = File> + Print + AllocGlobal>(
     let mut out = StdSink::new(rt);
     match asked {
         Asked::Spec => tell_spec(alloc, &mut pages, &mut out),
-        Asked::Check { digest } => {
-            tell_check(alloc, name.as_bytes(), &mut pages, digest, &mut out)
+        Asked::Check { digest, redo } => {
+            tell_check(alloc, name.as_bytes(), &mut pages, digest, redo, &mut out)
         }
         Asked::Events => tell_events(alloc, &mut pages, &mut out),
+    }
+}
+
+/// Tells what is asked of a file, and where nothing is wrong with it, whether it goes on from an older copy, where one is named.
+fn tell_copy<R: Files<File = File> + Print + AllocGlobal>(
+    rt: &R,
+    asked: Asked,
+    older: Option<&str>,
+    name: &str,
+) -> Result<Option<FileFault>, BookStop> {
+    match (tell_file(rt, asked, name)?, older) {
+        (None, Some(older)) => tell_older(
+            rt.alloc(),
+            &mut FilePages::new(rt, older),
+            &mut FilePages::new(rt, name),
+        ),
+        (fault, _) => Ok(fault),
+    }
+}
+
+/// Tells the tasks of a journal, once, or again and again as standard input asks.
+fn tell_view<R: Files<File = File> + Input + Print + AllocGlobal>(
+    rt: &R,
+    view: &TaskView,
+    follows: bool,
+    name: &str,
+) -> Result<Option<FileFault>, BookStop> {
+    let alloc = rt.alloc();
+    let mut pages = FilePages::new(rt, name);
+    let mut out = StdSink::new(rt);
+    if follows {
+        follow_tasks(alloc, &mut pages, view, &mut StdSource::new(rt), &mut out)
+    } else {
+        tell_tasks(alloc, &mut pages, view, &mut out)
+    }
+}
+
+/// Says in one sentence what is wrong with a file, or why nothing more is told, and gives the status. The second is whether more is told.
+fn say<R: Eprint + AllocGlobal>(
+    rt: &R,
+    name: &str,
+    told: Result<Option<FileFault>, BookStop>,
+) -> anyhow::Result<(u8, bool)> {
+    match told {
+        Ok(None) => Ok((0, true)),
+        Ok(Some(fault)) => {
+            let sentence = sentence_of(name, &fault);
+            eprintln!(rt; "aw_book: {sentence}")?;
+            Ok((status_of(&fault), true))
+        }
+        Err(stop) => {
+            let sentence = stop_sentence(stop);
+            eprintln!(rt; "aw_book: {sentence}")?;
+            Ok((stop_status(stop), false))
+        }
     }
 }
 
@@ -50,29 +114,43 @@ fn tell_file<R: Files<File = File> + Print + AllocGlobal>(
 fn tell<R: Files<File = File> + Print + Eprint + AllocGlobal>(
     rt: &R,
     asked: Asked,
+    older: Option<&str>,
     names: &[&str],
 ) -> anyhow::Result<u8> {
-    let mut status = 0;
+    let mut greatest = 0u8;
     for name in names {
-        match tell_file(rt, asked, name) {
-            Ok(None) => {}
-            Ok(Some(fault)) => {
-                let sentence = sentence_of(name, &fault);
-                eprintln!(rt; "aw_book: {sentence}")?;
-                status = status.max(status_of(&fault));
-            }
-            Err(stop) => {
-                let sentence = stop_sentence(stop);
-                eprintln!(rt; "aw_book: {sentence}")?;
-                return Ok(stop_status(stop));
-            }
+        let (status, more) = say(rt, name, tell_copy(rt, asked, older, name))?;
+        greatest = greatest.max(status);
+        if !more {
+            return Ok(greatest);
         }
     }
-    Ok(status)
+    Ok(greatest)
+}
+
+/// Does what the words of a command ask for, of these files.
+fn tell_words<R: Files<File = File> + Input + Print + Eprint + AllocGlobal>(
+    rt: &R,
+    words: Words<'_>,
+    names: &[&str],
+) -> anyhow::Result<u8> {
+    match words {
+        Words::OfFiles(asked) => tell(rt, asked, None, names),
+        Words::OfCopies { asked, older } => tell(rt, asked, Some(older), names),
+        Words::OfTasks { view, follows } => {
+            let name = names.first().copied().unwrap_or("");
+            let (status, _) = say(rt, name, tell_view(rt, &view, follows, name))?;
+            Ok(status)
+        }
+        Words::NoCase => {
+            eprintln!(rt; "aw_book: a case is named by its sort and its number, as visit#1")?;
+            Ok(USAGE)
+        }
+    }
 }
 
 /// Does what these words ask for, of which the first is the program's name.
-fn answer<'a, R: Files<File = File> + Print + Eprint + AllocGlobal>(
+fn answer<'a, R: Files<File = File> + Input + Print + Eprint + AllocGlobal>(
     rt: &R,
     words: &'a [String],
 ) -> anyhow::Result<u8> {
@@ -86,14 +164,16 @@ fn answer<'a, R: Files<File = File> + Print + Eprint + AllocGlobal>(
     let Some((name, inner)) = matches.subcommand() else {
         return Ok(USAGE);
     };
-    match (words_of(name, inner), inner.get_strs("file")) {
-        (Some(asked), Some(names)) => tell(rt, asked, names),
+    match (words_of(rt.alloc(), name, inner)?, inner.get_strs("file")) {
+        (Some(asked), Some(names)) => tell_words(rt, asked, names),
         _ => Ok(USAGE),
     }
 }
 
 /// Does what the words after the program's name ask for.
-fn run<R: Env + Files<File = File> + Print + Eprint + AllocGlobal>(rt: &R) -> anyhow::Result<u8> {
+fn run<R: Env + Files<File = File> + Input + Print + Eprint + AllocGlobal>(
+    rt: &R,
+) -> anyhow::Result<u8> {
     let words: Vec<String> = env::args(rt)?.collect(rt.alloc())?;
     answer(rt, words.as_slice())
 }

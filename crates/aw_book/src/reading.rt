@@ -1,4 +1,7 @@
 //! A journal that is opened to be read.
+ghost use Rattle.std.specs.Prelude.{IfOk};
+ghost use Rattle.aw_grammar.specs.GrammarOf.{grammar_of};
+ghost use Rattle.aw_typed.specs.Typing.{IsMadeFor};
 
 use crate::faults::{BookStop, FileFault};
 use aw_book_read::{HeadFault, open_head};
@@ -22,7 +25,9 @@ fn book_of(
     role: u16,
     text: &Text,
     records: Records,
-) -> Result<Result<Book, FileFault>, BookStop> {
+) -> Result<Result<Book, FileFault>, BookStop>
+    ensures { IfOk result (λ found. IfOk found (λ book. IsMadeFor (grammar_of book.opened.accepted.grammar) book.opened.typed)) }
+{
     match open_head(alloc, role, text) {
         Ok(opened) => Ok(Ok(Book {
             role,
@@ -38,7 +43,9 @@ fn book_of(
 pub fn open_book<P: Pages>(
     alloc: Global,
     pages: &mut P,
-) -> Result<Result<Book, FileFault>, BookStop> {
+) -> Result<Result<Book, FileFault>, BookStop>
+    ensures { IfOk result (λ found. IfOk found (λ book. IsMadeFor (grammar_of book.opened.accepted.grammar) book.opened.typed)) }
+{
     match Records::begin(alloc, pages) {
         Ok(
             Begun::Whole {
