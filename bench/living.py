@@ -4,11 +4,13 @@ from __future__ import annotations
 import json
 import os
 import re
+import resource
 import shutil
 import socket
 import struct
 import subprocess
 import sys
+import tempfile
 import threading
 import time
 from collections.abc import Iterator
@@ -55,6 +57,19 @@ def ran(words: list[str], given: str | None = None, env: dict[str, str] | None =
     """A program that has run."""
     return subprocess.run(words, input=given, capture_output=True, text=True, errors="surrogateescape", check=False,
                           env={**os.environ, **(env or {})})
+
+
+def measured(words: list[str], source: bytes, limit: int) -> tuple[float, int, int | None]:
+    """Seconds of the processor, KiB held, and the status of a program; none where it took too long. GNU time tells what it holds, since a process holds
+    at first what its parent does."""
+    with tempfile.TemporaryFile() as file, tempfile.NamedTemporaryFile("r") as told:
+        file.write(source)
+        file.seek(0)
+        process = subprocess.Popen(["/usr/bin/time", "-q", "-f", "%M", "-o", told.name, *words], stdin=file, stdout=subprocess.DEVNULL, stderr=subprocess.DEVNULL,
+                                   preexec_fn=lambda: resource.setrlimit(resource.RLIMIT_CPU, (limit, limit)))
+        _, code, used = os.wait4(process.pid, 0)
+        process.returncode = status = os.waitstatus_to_exitcode(code)
+        return used.ru_utime + used.ru_stime, int(told.read() or 0), status if 0 <= status < 128 else None
 
 
 @dataclass

@@ -221,18 +221,6 @@ def growth(before: tuple[int, float] | None, now: tuple[int, float] | None) -> s
     return "%.1f" % (math.log(max(now[1], 1e-9) / before[1]) / math.log(now[0] / before[0]))
 
 
-def measured(words: list[str], source: bytes, limit: int, folder: str | None = None) -> tuple[float, int, int | None]:
-    """Seconds of the processor, KiB held, and the status; none where it took too long."""
-    with tempfile.TemporaryFile() as file:
-        file.write(source)
-        file.seek(0)
-        process = subprocess.Popen(words, stdin=file, stdout=subprocess.DEVNULL, stderr=subprocess.DEVNULL, cwd=folder,
-                                   preexec_fn=lambda: resource.setrlimit(resource.RLIMIT_CPU, (limit, limit)))
-        _, code, used = os.wait4(process.pid, 0)
-        process.returncode = os.waitstatus_to_exitcode(code)
-        return used.ru_utime + used.ru_stime, used.ru_maxrss, process.returncode if process.returncode >= 0 else None
-
-
 def larger(given: inputs.Input) -> bytes | None:
     """The same ten times as large; nothing where it is made without a size."""
     try:
@@ -251,7 +239,7 @@ def curves(given: argparse.Namespace, binary: str, book: str) -> int:
         for size, data in ((one.size, one.data()), (10 * one.size, larger(one))):
             if data is None:
                 continue
-            took, held, status = measured([binary, command], data, given.limit)
+            took, held, status = living.measured([binary, command], data, given.limit)
             wrong += status not in (inputs.DONE, inputs.TOO_LARGE, inputs.NO_MEMORY, inputs.TOO_LONG, None)
             now = (size, took) if status == one.status else None
             print("| %s | %s %s | `%s` | %.2f | %s | %s%.3f | %.1f | %s |" % (
@@ -277,7 +265,7 @@ def readers(given: argparse.Namespace, binary: str, book: str) -> int:
             opened = [binary, "node", "clinic", "1", "kept"]
             for words in [*[[book, *words, str(path)] for words in commands], opened]:
                 shown = "aw_book " + " ".join(words[1:-1]) if words is not opened else "node .. kept"
-                took, held, status = measured(words, b"", given.limit) if words is not opened else opening(words, text, folder, given.limit)
+                took, held, status = living.measured(words, b"", given.limit) if words is not opened else opening(words, text, folder, given.limit)
                 wrong += status not in (0, 5, None)
                 now = (count, took) if status == 0 else None
                 print("| a journal | %s events | `%s` | %.2f | %s | %s%.3f | %.1f | %s |" % (
