@@ -98,7 +98,7 @@ def stands(data: bytes) -> tuple[set[str], int]:
     if not data:
         return {"empty"}, 0
     if head is None or head >= len(data):
-        return {"headless"}, 0
+        return {"headless", "damaged"}, 0
     events, counted = nodes.events(data)
     good = list(itertools.takewhile(is_event, events))
     return ({"sound"} if len(good) == len(events) and counted == data else {"cut", "damaged"}), len(good)
