@@ -1,5 +1,5 @@
 #!/usr/bin/env python3
-"""month.py [--program AW] [--book AW_BOOK] [--cases N] [--minutes N] [--crash SECONDS] [--seed N] [--desks] [--jobs N] [--keep FOLDER]
+"""month.py [--aw AW] [--book AW_BOOK] [--cases N] [--minutes N] [--crash SECONDS] [--seed N] [--desks] [--jobs N] [--keep FOLDER]
 
 A month of an office in an hour: five offices of claims, each a kept node in a process of its own, a post for each, and choices that are drawn from a
 number. While it goes on:
@@ -443,7 +443,7 @@ def numbers(given: argparse.Namespace) -> None:
 def run(given: argparse.Namespace) -> int:
     numbers(given)
     living.needs()
-    binary, book = living.program(given.program, "AW", "aw_prog"), living.program(given.book, "AW_BOOK", "aw_book")
+    binary, book = living.program(given.aw, "AW", "aw_prog"), living.program(given.book, "AW_BOOK", "aw_book")
     nodes.alone()
     began = time.monotonic()
     with tempfile.TemporaryDirectory(dir=nodes.FAST) as name:
@@ -471,7 +471,7 @@ def run(given: argparse.Namespace) -> int:
 
 def main() -> None:
     asked = argparse.ArgumentParser(description=__doc__, formatter_class=argparse.RawDescriptionHelpFormatter)
-    asked.add_argument("--program", metavar="AW", help="the program aw; else what AW names, else the built one")
+    asked.add_argument("--aw", metavar="AW", help="the program aw; else what AW names, else the built one")
     asked.add_argument("--book", metavar="AW_BOOK", help="the program aw_book; else what AW_BOOK names, else the built one")
     asked.add_argument("--cases", type=int, default=40_000, metavar="N", help="how many claims (40,000)")
     asked.add_argument("--minutes", type=float, default=60, metavar="N", help="in how many minutes they come (60)")

@@ -1,6 +1,6 @@
 #!/usr/bin/env python3
-"""scale.py [--program AW] [--book AW_BOOK] [--roles N] [--messages N] [--posts N] [--seed N] [--jobs N]
-   scale.py --curves [--program AW] [--book AW_BOOK] [--limit SECONDS]
+"""scale.py [--aw AW] [--book AW_BOOK] [--roles N] [--messages N] [--posts N] [--seed N] [--jobs N]
+   scale.py --curves [--aw AW] [--book AW_BOOK] [--only WORD] [--limit SECONDS]
    scale.py --plan CASES [figures]
 
 The first form serves so many offices (64), each a kept node in a process of its own, with posts between them, and begins cases, each of which goes
@@ -232,7 +232,7 @@ def larger(given: inputs.Input) -> bytes | None:
 def curves(given: argparse.Namespace, binary: str, book: str) -> int:
     """Rows of a table: each family at its largest size of today and at ten times that."""
     print("| Input | Size | Command | MiB read | Status | Processor s | MiB held | Power |\n|---|---|---|---|---|---|---|---|", flush=True)
-    last = {(one.family, command): one for one in inputs.growing() if one.size for command in one.commands}
+    last = {(one.family, command): one for one in inputs.growing() if one.size and given.only in one.family for command in one.commands}
     wrong = 0
     for (family, command), one in last.items():
         before = None
@@ -246,7 +246,7 @@ def curves(given: argparse.Namespace, binary: str, book: str) -> int:
                 family, "{:,}".format(size), one.unit, command, len(data) / 2**20, "none" if status is None else "11, past 16 MiB" if status == 11 else status,
                 "> " if status is None else "", took, held / 1024, growth(before, now)), flush=True)
             before = now
-    wrong += readers(given, binary, book)
+    wrong += readers(given, binary, book) if given.only in "a journal" else 0
     print("%d statuses are none that is called for" % wrong)
     return 1 if wrong else 0
 
@@ -323,7 +323,7 @@ def run(given: argparse.Namespace) -> int:
         show(plan(figures_of(given.figures), given.plan or 10_000_000, given.machine, given.opening))
         return 0
     living.needs()
-    binary, book = living.program(given.program, "AW", "aw_prog"), living.program(given.book, "AW_BOOK", "aw_book")
+    binary, book = living.program(given.aw, "AW", "aw_prog"), living.program(given.book, "AW_BOOK", "aw_book")
     if given.curves:
         nodes.alone()
         return curves(given, binary, book)
@@ -332,7 +332,7 @@ def run(given: argparse.Namespace) -> int:
 
 def main() -> None:
     asked = argparse.ArgumentParser(description=__doc__, formatter_class=argparse.RawDescriptionHelpFormatter)
-    asked.add_argument("--program", metavar="AW", help="the program aw; else what AW names, else the built one")
+    asked.add_argument("--aw", metavar="AW", help="the program aw; else what AW names, else the built one")
     asked.add_argument("--book", metavar="AW_BOOK", help="the program aw_book; else what AW_BOOK names, else the built one")
     asked.add_argument("--roles", type=int, default=ROLES, metavar="N", help="how many offices, 8 to 64 (64)")
     asked.add_argument("--messages", type=int, default=1_000_000, metavar="N", help="how many messages are sent at least (1,000,000)")
@@ -340,6 +340,7 @@ def main() -> None:
     asked.add_argument("--seed", type=int, default=1, metavar="N", help="the number that all is drawn from (1)")
     asked.add_argument("--jobs", type=int, default=2, metavar="N", help="how many groups of cases are joined beside each other (2)")
     asked.add_argument("--curves", action="store_true", help="each command on ten times the largest inputs instead")
+    asked.add_argument("--only", default="", metavar="WORD", help="with --curves: the inputs with this word in their name, as `journal`")
     asked.add_argument("--limit", type=int, default=120, metavar="SECONDS", help="seconds of the processor after which a run of --curves is ended (120)")
     asked.add_argument("--plan", type=int, metavar="CASES", help="for how many cases the plan is (10,000,000)")
     asked.add_argument("--figures", metavar="FIGURES", help="the figures that a run printed; then the plan alone is worked out")
