@@ -109,6 +109,8 @@ class Desks:
         self.driver.get("http://127.0.0.1:%d/task/%s" % (FIRST_DESK + number, quote(task)))
         if "Decided: %s" % words in self.text():
             return True
+        for more in self.driver.find_elements(By.TAG_NAME, "summary"):
+            more.click()
         for wanted in (words, "Send"):
             found = [one for one in self.driver.find_elements(By.CSS_SELECTOR, "a, button") if one.text.strip() == wanted and one.is_displayed()]
             if not found:
