@@ -6,6 +6,7 @@ import os
 import re
 import resource
 import shutil
+import signal
 import socket
 import struct
 import subprocess
@@ -358,6 +359,11 @@ def words_of(names: Names, letter: bytes) -> str:
 def message(names: Names, words: str) -> bytes:
     """A message in bytes, by its words, as `to front tell ..`."""
     return bytes(Words(names, words).message()[1])
+
+
+def on_end() -> None:
+    """Lets a script that is told to end take its processes and folders with it."""
+    signal.signal(signal.SIGTERM, lambda *_: sys.exit(143))
 
 
 def needs() -> None:

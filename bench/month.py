@@ -481,6 +481,7 @@ def main() -> None:
     asked.add_argument("--jobs", type=int, default=2, metavar="N", help="how many groups of cases are joined beside each other (2)")
     asked.add_argument("--keep", metavar="FOLDER", help="copy all journals and what the posts told there at the end")
     given = asked.parse_args()
+    living.on_end()
     try:
         sys.exit(run(given))
     except KeyboardInterrupt:

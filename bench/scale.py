@@ -346,6 +346,7 @@ def main() -> None:
     asked.add_argument("--machine", type=int, default=23_000, metavar="MIB", help="the memory of a machine of the plan (23,000)")
     asked.add_argument("--opening", type=float, default=60, metavar="SECONDS", help="within how many seconds a node of the plan opens its journal (60)")
     given = asked.parse_args()
+    living.on_end()
     try:
         sys.exit(run(given))
     except KeyboardInterrupt:
