@@ -234,7 +234,7 @@ class Post:
         self.process: subprocess.Popen[bytes] | None = None
 
     def start(self) -> None:
-        words = [sys.executable, "-B", str(POST), str(self.world.form), str(self.places), "--interval", "0.2", "--longest", "1", "--timeout", "60"]
+        words = [sys.executable, "-B", str(POST), str(self.world.form), str(self.places), "--interval", str(self.world.interval), "--longest", "1", "--timeout", "60"]
         words += [word for role in self.senders for word in ("--from", role)]
         with open(self.log, "ab") as log:
             self.process = subprocess.Popen(words, stdin=subprocess.DEVNULL, stdout=subprocess.DEVNULL, stderr=log)
@@ -264,8 +264,8 @@ class Post:
 class World:
     """The offices of a specification, their posts, and the choices that were answered."""
 
-    def __init__(self, binary: str, text: str, folder: Path, posts: int) -> None:
-        self.binary, self.folder, self.form = binary, folder, folder / "form.aw"
+    def __init__(self, binary: str, text: str, folder: Path, posts: int, interval: float = 0.2) -> None:
+        self.binary, self.folder, self.form, self.interval = binary, folder, folder / "form.aw", interval
         self.set_form(text)
         roles = self.names.roles
         self.offices = {role: Office(self, role) for role in roles}

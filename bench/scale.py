@@ -81,10 +81,10 @@ class Ring(Clerks):
         """Begins cases until so many messages are sent, and sees them through."""
         sent, looked = 0, 0.0
         while sent < messages or self.busy():
-            while sent < messages and self.open < min(MOST_OPEN, max(50, messages // 20)):
+            while sent < messages and self.open < min(MOST_OPEN, max(50, messages // 100)):
                 self.begin()
             worked = self.work()
-            if time.monotonic() > looked + 5 or not worked:
+            if sent < messages and time.monotonic() > looked + (1 if messages < 10_000 else 5):
                 sent, looked = sum(office.sent() for office in self.world.offices.values()), time.monotonic()
             if self.world.wrong:
                 return
@@ -161,7 +161,7 @@ def bound(ring: Ring) -> int:
 def many(given: argparse.Namespace, binary: str, book: str) -> int:
     nodes.alone()
     with tempfile.TemporaryDirectory(dir=nodes.FAST) as name:
-        world = World(binary, form(given.roles), Path(name), given.posts)
+        world = World(binary, form(given.roles), Path(name), given.posts, 1.0)
         try:
             world.start()
             return lived(given, book, Ring(world, random.Random(given.seed)))
