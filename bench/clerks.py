@@ -50,7 +50,10 @@ class Clerks:
             self.open -= 1
             self.closed(case)
             return
-        step = living.step(self.world.text, self.world.names, case, self.plans[case].popleft())
+        self.due(living.step(self.world.text, self.world.names, case, self.plans[case].popleft()))
+
+    def due(self, step: Step) -> None:
+        """A choice is to be asked."""
         self.queue[step.role].append(step)
 
     def busy(self) -> bool:
