@@ -412,15 +412,15 @@ def companion(words: list[str], aw: str) -> tuple[str | None, str]:
     process = subprocess.Popen([sys.executable, "-B", *words], stdin=subprocess.DEVNULL, stdout=subprocess.PIPE, stderr=subprocess.PIPE, env={**os.environ, "AW": aw})
     told_to_end = False
     try:
-        _, said = process.communicate(timeout=1.5 if "aw_post" in words[0] else 60)
+        written, said = process.communicate(timeout=1.5 if "aw_post" in words[0] else 60)
     except subprocess.TimeoutExpired:
         told_to_end = True
         process.send_signal(signal.SIGTERM)
-        _, said = process.communicate(timeout=60)
+        written, said = process.communicate(timeout=60)
     status = process.returncode
     if told_to_end and status == -signal.SIGTERM:
         status = 0
-    bad = status < 0 or status > 75 or status == 70 or b"Traceback" in said or (status > 2 and not said)
+    bad = status < 0 or status > 75 or status == 70 or b"Traceback" in said or (status > 2 and not said + written)
     return ("status %d, %r" % (status, said[-SHOWN:]) if bad else None), str(status)
 
 

@@ -42,7 +42,7 @@ from clerks import Clerks
 from client import Names, Trouble
 from living import Sorry, World
 
-GROUP, MOST_OPEN, AT_ONCE = 300, 4000, 500
+GROUP, MOST_OPEN, AT_ONCE, BESIDE = 300, 4000, 500, 16
 ROLES = 64
 
 
@@ -63,7 +63,7 @@ class Ring(Clerks):
     """Cases that go round, each through one to four offices beside its own."""
 
     def __init__(self, world: World, draw: random.Random) -> None:
-        super().__init__(world, AT_ONCE)
+        super().__init__(world, AT_ONCE, BESIDE)
         self.draw, self.roles = draw, len(world.names.roles)
         self.rules: Counter[str] = Counter()
 
@@ -335,7 +335,7 @@ def main() -> None:
     asked.add_argument("--book", metavar="AW_BOOK", help="the program aw_book; else what AW_BOOK names, else the built one")
     asked.add_argument("--roles", type=int, default=ROLES, metavar="N", help="how many offices, 8 to 64 (64)")
     asked.add_argument("--messages", type=int, default=1_000_000, metavar="N", help="how many messages are sent at least (1,000,000)")
-    asked.add_argument("--posts", type=int, default=4, metavar="N", help="how many posts carry them, each for its share of the offices (4)")
+    asked.add_argument("--posts", type=int, default=8, metavar="N", help="how many posts carry them, each for its share of the offices (8)")
     asked.add_argument("--seed", type=int, default=1, metavar="N", help="the number that all is drawn from (1)")
     asked.add_argument("--jobs", type=int, default=2, metavar="N", help="how many groups of cases are joined beside each other (2)")
     asked.add_argument("--curves", action="store_true", help="each command on ten times the largest inputs instead")
