@@ -3,6 +3,7 @@ from __future__ import annotations
 
 import time
 from collections import deque
+from concurrent.futures import ThreadPoolExecutor
 
 import living
 from living import Step, World
@@ -13,8 +14,9 @@ AT_ONCE, PAUSE = 64, 0.3
 class Clerks:
     """Cases on their way: what is due at each office, and what has to wait a little."""
 
-    def __init__(self, world: World, at_once: int = AT_ONCE) -> None:
+    def __init__(self, world: World, at_once: int = AT_ONCE, beside: int = 1) -> None:
         self.world, self.at_once = world, at_once
+        self.pool = ThreadPoolExecutor(beside) if beside > 1 else None
         self.queue: dict[str, deque[Step]] = {role: deque() for role in world.names.roles}
         self.later: deque[tuple[float, Step]] = deque()
         self.plans: dict[int, deque[str]] = {}
@@ -50,7 +52,10 @@ class Clerks:
             self.open -= 1
             self.closed(case)
             return
-        step = living.step(self.world.text, self.world.names, case, self.plans[case].popleft())
+        self.due(living.step(self.world.text, self.world.names, case, self.plans[case].popleft()))
+
+    def due(self, step: Step) -> None:
+        """A choice is to be asked."""
         self.queue[step.role].append(step)
 
     def busy(self) -> bool:
@@ -58,18 +63,16 @@ class Clerks:
         return bool(self.open or self.later or any(self.queue.values()))
 
     def work(self) -> bool:
-        """Asks each office for some of what is due there; whether anything was asked."""
-        now, asked = time.monotonic(), False
+        """Asks each office for some of what is due there, some offices beside each other; whether anything was asked."""
+        now = time.monotonic()
         while self.later and self.later[0][0] <= now:
             step = self.later.popleft()[1]
             self.queue[step.role].append(step)
-        for role, queue in self.queue.items():
-            some = [queue.popleft() for _ in range(min(self.at_once, len(queue)))]
-            if some:
-                asked = True
-                done, late, rest = self.choose(role, some)
-                queue.extendleft(reversed(rest))
-                self.later.extend((time.monotonic() + PAUSE, step) for step in late)
-                for step in done:
-                    self.done(step)
-        return asked
+        due = [(role, [queue.popleft() for _ in range(min(self.at_once, len(queue)))]) for role, queue in self.queue.items() if queue]
+        asked = (self.pool.map if self.pool else map)(lambda one: self.choose(*one), due)
+        for (role, _), (done, late, rest) in zip(due, asked):
+            self.queue[role].extendleft(reversed(rest))
+            self.later.extend((time.monotonic() + PAUSE, step) for step in late)
+            for step in done:
+                self.done(step)
+        return bool(due)

@@ -7,7 +7,6 @@ from __future__ import annotations
 import re
 import subprocess
 import sys
-from collections.abc import Iterable
 from concurrent.futures import ThreadPoolExecutor
 from dataclasses import dataclass, field
 
@@ -42,9 +41,7 @@ def events_of(book: str, world: World, group: int) -> dict[int, Part]:
         assert told.stdout is not None
         with told.stdout as lines:
             for line in lines:
-                words = line.split(" ", 3)
-                case = int(words[2]) if words[0] == "start" else int(CASE.search(line)[1])  # type: ignore[index]
-                found.setdefault(case // group, {}).setdefault(role, []).append("to %s %s" % (role, line[4:-1]) if words[0] == "got" else line[:-1])
+                found.setdefault(case_of(line) // group, {}).setdefault(role, []).append("to %s %s" % (role, line[4:-1]) if line.startswith("got ") else line[:-1])
         if told.wait():
             raise Sorry("aw_book events ended with status %d for the journal of %s; `aw_book check` tells how it stands." % (told.returncode, role))
     return found
@@ -117,17 +114,16 @@ class Joining:
             found.wrong.append("the worklists are not those that the nodes told")
 
 
-def named(cases: Iterable[int]) -> re.Pattern[str]:
-    """What finds the lines of some cases."""
-    some = "|".join(map(str, sorted(cases)))
-    return re.compile(r"^start [a-z0-9_]+ (?:%s)$|^item [^#]*#(?:%s)\b|^(?:choose|to [a-z0-9_]+ (?:call|ask|tell)) [^#]*#(?:%s)\b" % (some, some, some) if some else r"(?!)")
+def case_of(line: str) -> int:
+    """The case of an event, an item or a task: each names but one."""
+    words = line.split(" ", 3)
+    return int(words[2]) if words[0] == "start" else int(CASE.search(line)[1])  # type: ignore[index]
 
 
 def parted(part: Part, cases: set[int]) -> tuple[Part, Part]:
     """The events of some cases, and those of the others."""
-    which = named(cases)
-    return ({role: [line for line in lines if which.search(line)] for role, lines in part.items()},
-            {role: [line for line in lines if not which.search(line)] for role, lines in part.items()})
+    return ({role: [line for line in lines if case_of(line) in cases] for role, lines in part.items()},
+            {role: [line for line in lines if case_of(line) not in cases] for role, lines in part.items()})
 
 
 @dataclass
@@ -164,7 +160,7 @@ class Whole:
             with told.stdout as lines:
                 for line in lines:
                     if not line.startswith("item ") and not re.match(r"\S+ open \(", line):
-                        found.setdefault(int(CASE.search(line)[1]) // self.group, []).append(line[:-1])  # type: ignore[index]
+                        found.setdefault(case_of(line) // self.group, []).append(line[:-1])
             if told.wait():
                 raise Sorry("aw_book tasks ended with status %d for the journal of %s; `aw_book check` tells how it stands." % (told.returncode, office.role))
         return found
@@ -182,13 +178,12 @@ class Whole:
         for case in sorted(forged):
             found.left += work.order(parted(apart, {case})[0])[1]
         if rows is not None:
-            which = named(forged)
             undivided = work.undivided([line for case in within if case not in forged for line in self.world.lines.get(case, [])]).split("\n")[2:-1]
-            told = [row for row in rows if not which.search("choose " + row)]
+            told = [row for row in rows if case_of(row) not in forged]
             if sorted(told) != sorted(row for row in undivided if not re.match(r"\S+ open \(", row)):
                 found.wrong.append("the tasks that aw_book tells are not those of the undivided run, in the cases from %d on" % within[0])
         return found
 
     def shown(self, cases: set[int]) -> list[str]:
         """What the worklists have of some cases."""
-        return [item for item in self.items if int(CASE.search(item)[1]) in cases]  # type: ignore[index]
+        return [item for item in self.items if case_of(item) in cases]

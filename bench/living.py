@@ -4,11 +4,14 @@ from __future__ import annotations
 import json
 import os
 import re
+import resource
 import shutil
+import signal
 import socket
 import struct
 import subprocess
 import sys
+import tempfile
 import threading
 import time
 from collections.abc import Iterator
@@ -55,6 +58,19 @@ def ran(words: list[str], given: str | None = None, env: dict[str, str] | None =
     """A program that has run."""
     return subprocess.run(words, input=given, capture_output=True, text=True, errors="surrogateescape", check=False,
                           env={**os.environ, **(env or {})})
+
+
+def measured(words: list[str], source: bytes, limit: int) -> tuple[float, int, int | None]:
+    """Seconds of the processor, KiB held, and the status of a program; none where it took too long. GNU time tells what it holds, since a process holds
+    at first what its parent does."""
+    with tempfile.TemporaryFile() as file, tempfile.NamedTemporaryFile("r") as told:
+        file.write(source)
+        file.seek(0)
+        process = subprocess.Popen(["/usr/bin/time", "-q", "-f", "%M", "-o", told.name, *words], stdin=file, stdout=subprocess.DEVNULL, stderr=subprocess.DEVNULL,
+                                   preexec_fn=lambda: resource.setrlimit(resource.RLIMIT_CPU, (limit, limit)))
+        _, code, used = os.wait4(process.pid, 0)
+        process.returncode = status = os.waitstatus_to_exitcode(code)
+        return used.ru_utime + used.ru_stime, int(told.read() or 0), status if 0 <= status < 128 else None
 
 
 @dataclass
@@ -218,7 +234,7 @@ class Post:
         self.process: subprocess.Popen[bytes] | None = None
 
     def start(self) -> None:
-        words = [sys.executable, "-B", str(POST), str(self.world.form), str(self.places), "--interval", "0.2", "--longest", "1", "--timeout", "60"]
+        words = [sys.executable, "-B", str(POST), str(self.world.form), str(self.places), "--interval", str(self.world.interval), "--longest", "1", "--timeout", "60"]
         words += [word for role in self.senders for word in ("--from", role)]
         with open(self.log, "ab") as log:
             self.process = subprocess.Popen(words, stdin=subprocess.DEVNULL, stdout=subprocess.DEVNULL, stderr=log)
@@ -248,8 +264,8 @@ class Post:
 class World:
     """The offices of a specification, their posts, and the choices that were answered."""
 
-    def __init__(self, binary: str, text: str, folder: Path, posts: int) -> None:
-        self.binary, self.folder, self.form = binary, folder, folder / "form.aw"
+    def __init__(self, binary: str, text: str, folder: Path, posts: int, interval: float = 0.2) -> None:
+        self.binary, self.folder, self.form, self.interval = binary, folder, folder / "form.aw", interval
         self.set_form(text)
         roles = self.names.roles
         self.offices = {role: Office(self, role) for role in roles}
@@ -343,6 +359,11 @@ def words_of(names: Names, letter: bytes) -> str:
 def message(names: Names, words: str) -> bytes:
     """A message in bytes, by its words, as `to front tell ..`."""
     return bytes(Words(names, words).message()[1])
+
+
+def on_end() -> None:
+    """Lets a script that is told to end take its processes and folders with it."""
+    signal.signal(signal.SIGTERM, lambda *_: sys.exit(143))
 
 
 def needs() -> None:

@@ -1,5 +1,5 @@
 #!/usr/bin/env python3
-"""month.py [--program AW] [--book AW_BOOK] [--cases N] [--minutes N] [--crash SECONDS] [--seed N] [--desks] [--jobs N] [--keep FOLDER]
+"""month.py [--aw AW] [--book AW_BOOK] [--cases N] [--minutes N] [--crash SECONDS] [--seed N] [--desks] [--jobs N] [--keep FOLDER]
 
 A month of an office in an hour: five offices of claims, each a kept node in a process of its own, a post for each, and choices that are drawn from a
 number. While it goes on:
@@ -40,6 +40,7 @@ import joining
 import living
 import nodes
 from clerks import PAUSE, Clerks
+from clicks import Desks
 from client import Trouble
 
 sys.path[:0] = [str(living.TOP / "offices"), str(living.TOP / "forms")]
@@ -188,6 +189,10 @@ class Month(Clerks):
     def choose(self, role: str, steps: list[Step]) -> tuple[list[Step], list[Step], list[Step]]:
         return self.crashes.choose(role, steps)
 
+    def due(self, step: Step) -> None:
+        if self.desks is None or not self.desks.takes(step):
+            super().due(step)
+
     def done(self, step: Step) -> None:
         """A choice was taken."""
         if step.redone:
@@ -225,9 +230,12 @@ class Month(Clerks):
         while self.day < min(int(part * DAYS), DAYS):
             self.day += 1
             self.forge()
-            if self.desks is not None:
-                self.desks.day(self)
+            if self.desks is not None and self.begun < self.given.cases:
+                self.desks.cases.add(self.begun + 1)
+                self.begin()
         self.forge_waiting()
+        for step in self.desks.look() if self.desks is not None else ():
+            self.done(step)
         if not self.copied and part >= COPIED:
             self.copy()
         if self.copied and not self.put_back and part >= PUT_BACK:
@@ -309,6 +317,9 @@ class Month(Clerks):
                 os.replace(result, office.journal)
             world.set_form(FORM + MORE)
             world.start()
+            if self.desks is not None:
+                self.desks.stop()
+                self.desks.start()
         self.changed = True
 
     def forge(self) -> None:
@@ -423,15 +434,6 @@ class Month(Clerks):
             print("%-44s %s" % (name, value))
 
 
-class Desks:
-    """The desks of two offices, and a browser at them."""
-
-    clicked = 0
-
-    def day(self, month: Month) -> None:
-        raise NotImplementedError
-
-
 def numbers(given: argparse.Namespace) -> None:
     """Refuses numbers that make no month."""
     if given.cases < DAYS or given.minutes <= 0 or given.crash <= 0 or given.jobs < 1:
@@ -441,17 +443,22 @@ def numbers(given: argparse.Namespace) -> None:
 def run(given: argparse.Namespace) -> int:
     numbers(given)
     living.needs()
-    binary, book = living.program(given.program, "AW", "aw_prog"), living.program(given.book, "AW_BOOK", "aw_book")
+    binary, book = living.program(given.aw, "AW", "aw_prog"), living.program(given.book, "AW_BOOK", "aw_book")
     nodes.alone()
     began = time.monotonic()
     with tempfile.TemporaryDirectory(dir=nodes.FAST) as name:
         month = Month(given, binary, book, Path(name))
         try:
             month.world.start()
+            if given.desks:
+                month.desks = Desks(month.world, book)
+                month.desks.start()
             month.live()
             wrong = month.end()
         finally:
             month.crashes.ending.set()
+            if month.desks is not None:
+                month.desks.end()
             month.world.stop()
             if given.keep:
                 shutil.copytree(name, given.keep, dirs_exist_ok=True)
@@ -464,7 +471,7 @@ def run(given: argparse.Namespace) -> int:
 
 def main() -> None:
     asked = argparse.ArgumentParser(description=__doc__, formatter_class=argparse.RawDescriptionHelpFormatter)
-    asked.add_argument("--program", metavar="AW", help="the program aw; else what AW names, else the built one")
+    asked.add_argument("--aw", metavar="AW", help="the program aw; else what AW names, else the built one")
     asked.add_argument("--book", metavar="AW_BOOK", help="the program aw_book; else what AW_BOOK names, else the built one")
     asked.add_argument("--cases", type=int, default=40_000, metavar="N", help="how many claims (40,000)")
     asked.add_argument("--minutes", type=float, default=60, metavar="N", help="in how many minutes they come (60)")
@@ -474,6 +481,7 @@ def main() -> None:
     asked.add_argument("--jobs", type=int, default=2, metavar="N", help="how many groups of cases are joined beside each other (2)")
     asked.add_argument("--keep", metavar="FOLDER", help="copy all journals and what the posts told there at the end")
     given = asked.parse_args()
+    living.on_end()
     try:
         sys.exit(run(given))
     except KeyboardInterrupt:

@@ -5,6 +5,7 @@ asked that it ends with a status that its page has, and never with a traceback o
 from __future__ import annotations
 
 import argparse
+import itertools
 import os
 import resource
 import shutil
@@ -25,6 +26,9 @@ sys.dont_write_bytecode = True
 import living
 import nodes
 import sessions
+
+sys.path[:0] = [str(living.TOP / "offices"), str(living.TOP / "forms")]
+from aw_offices import frames
 
 WORDS = ("spec", "check", "check --digest", "events")
 GOOD, NOT_GOOD, USAGE, NOT_READ, NOT_WRITTEN, NO_MEMORY = 0, 1, 2, 3, 4, 5
@@ -90,13 +94,28 @@ def answer(words: list[str], given: bytes = b"", env: dict[str, str] | None = No
 
 def stands(data: bytes) -> tuple[set[str], int]:
     """The words of a file by a second reader, and how many events count."""
-    events, counted = nodes.events(data)
     head = nodes.head_length(data) if data else None
     if not data:
         return {"empty"}, 0
     if head is None or head >= len(data):
-        return {"headless"}, 0
-    return ({"sound"} if counted == data else {"cut", "damaged"}), len(events)
+        return {"headless", "damaged"}, 0
+    events, counted = nodes.events(data)
+    good = list(itertools.takewhile(is_event, events))
+    return ({"sound"} if len(good) == len(events) and counted == data else {"cut", "damaged"}), len(good)
+
+
+def is_event(data: bytes) -> bool:
+    """Whether some bytes are a choice or a letter, as the companions read them."""
+    try:
+        if data[:1] == b"\1":
+            frames.choice(data[1:])
+        elif data[:1] == b"\2":
+            frames.message(data[1:])
+        else:
+            return False
+    except frames.Bad:
+        return False
+    return True
 
 
 def differs(book: str, commands: list[list[str]], path: Path, data: bytes, cut: bool, whole: list[bytes]) -> tuple[str | None, str]:
@@ -191,7 +210,6 @@ def faults(program: str, binary: str, aw: str, source: str, first: int) -> int:
     if program == "companions":
         return killed(aw)
     wrong, data = 0, next(iter(journals(aw).values()))
-    statuses = {"memory": NO_MEMORY, "disk": NOT_READ, "write": NOT_WRITTEN}
     with tempfile.TemporaryDirectory(dir=nodes.FAST) as folder:
         path, count, shim = Path(folder) / "journal", Path(folder) / "count", str(Path(folder) / "faulty.so")
         path.write_bytes(data)
@@ -200,20 +218,30 @@ def faults(program: str, binary: str, aw: str, source: str, first: int) -> int:
         def run(words: list[str], call: str, at: int, rest: int) -> Answer:
             return answer([*words, str(path)], env={"LD_PRELOAD": shim, "FAULTY_CALL": call, "FAULTY_AT": str(at), "FAULTY_REST": str(rest), "FAULTY_COUNT": str(count)})
         for command in asked_of(binary):
-            for call, wanted in statuses.items():
+            for call in ("memory", "disk", "write"):
                 whole = run([binary, *command], call, 0, 0)
                 calls = int(count.read_text() or 0)
                 judged = []
                 for at in range(1, min(calls, first) + 1):
                     for rest in (0, 1):
                         status, written, said = run([binary, *command], call, at, rest)
-                        fits = (status, written) == whole[:2] or (status == wanted and bool(said) and whole[1].startswith(written))
+                        fits = (status, written) == whole[:2] or (whole[1].startswith(written) and fails_so(call, rest, status, said))
                         judged.append(("%s %d%s" % (call, at, " and all behind it" if rest else ""), (
                             None if fits else "status %d, %d bytes, %r" % (status, len(written), said[:SHOWN]), "unchanged" if status == whole[0] else str(status))))
                 wrong += told("aw_book %s, %s, %d calls" % (" ".join(command), call, calls), judged)
         if path.read_bytes() != data:
             wrong += told("the journal", [("afterwards", ("it was changed", "wrong"))])
     return wrong
+
+
+def fails_so(call: str, rest: int, status: int, said: bytes) -> bool:
+    """Whether a call that fails has the status of its kind and a sentence. There is none where there is no memory for it, nor where the calls behind
+    fail too that would write it, which then is what the status tells."""
+    if call == "memory":
+        return status == NO_MEMORY
+    if call == "disk":
+        return (status == NOT_READ and bool(said)) or (rest == 1 and status in (NOT_READ, NO_MEMORY))
+    return status == NOT_WRITTEN and bool(said)
 
 
 def large(aw: str) -> Iterator[tuple[str, bytes]]:
@@ -240,14 +268,11 @@ def hostile_rows(program: str, binary: str, aw: str, limit: int) -> bool:
         for name, data in large(aw):
             path.write_bytes(data)
             for command in asked_of(binary):
-                process = subprocess.Popen([binary, *command, str(path)], stdout=subprocess.DEVNULL, stderr=subprocess.DEVNULL,
-                                           preexec_fn=lambda: resource.setrlimit(resource.RLIMIT_CPU, (limit, limit)))
-                _, code, used = os.wait4(process.pid, 0)
-                process.returncode = status = os.waitstatus_to_exitcode(code)
+                took, held, status = living.measured([binary, *command, str(path)], b"", limit)
                 fits = status in (GOOD, NOT_GOOD, NO_MEMORY)
                 good = good and fits
-                print("| %s | `%s` | %.1f | %d%s | %.2f | %.1f |" % (name, " ".join(command), len(data) / MEBIBYTE, status, "" if fits else " !",
-                                                                   used.ru_utime + used.ru_stime, used.ru_maxrss / 1024), flush=True)
+                print("| %s | `%s` | %.1f | %s%s | %.2f | %.1f |" % (name, " ".join(command), len(data) / MEBIBYTE, "none" if status is None else status,
+                                                                     "" if fits else " !", took, held / 1024), flush=True)
     return good
 
 
@@ -259,7 +284,7 @@ def closed_ends(book: str, path: Path) -> Iterator[str]:
         close = " ".join("%d>&-" % one if one else "<&-" for one in streams)
         status, written, _ = answer(["/bin/sh", "-c", '"$0" check "$1" %s' % close, book, str(path)])
         wanted = (NOT_WRITTEN, b"") if 1 in streams else whole[:2]
-        if (status, written) != wanted:
+        if (status, written) != wanted and not ({1, 2} <= set(streams) and status in (NOT_WRITTEN, NO_MEMORY)):
             yield "without descriptors %s: status %d, %r, and not %r" % (streams, status, written[:SHOWN], wanted)
     for ends in ("> /dev/full", "1< /dev/null"):
         status = answer(["/bin/sh", "-c", '"$0" events "$1" %s' % ends, book, str(path)])[0]
@@ -282,7 +307,7 @@ def no_files(book: str, folder: Path, path: Path) -> Iterator[str]:
     door.bind(str(folder / "socket"))
     for name in ("folder", "pipe", "loop", "nothing", "socket", "nobody", "/dev/null", "/dev/zero", "/dev/full", "/dev/tty"):
         for command in asked_of(book):
-            status, _, told_ = answer([book, *command, str(folder / name), str(path)], limit=10)
+            status, _, told_ = answer([book, *command, str(folder / name)], limit=10)
             if status != NOT_READ or not told_:
                 yield "%s %s: status %d, %r" % (" ".join(command), name, status, told_[:SHOWN])
     door.close()
@@ -385,13 +410,17 @@ def companions(aw: str, make: Callable[[bytes], Iterable[bytes]], how: str) -> i
 def companion(words: list[str], aw: str) -> tuple[str | None, str]:
     """What is wrong with how a companion ends, or nothing; and its status. One that goes on is told to end."""
     process = subprocess.Popen([sys.executable, "-B", *words], stdin=subprocess.DEVNULL, stdout=subprocess.PIPE, stderr=subprocess.PIPE, env={**os.environ, "AW": aw})
+    told_to_end = False
     try:
-        _, said = process.communicate(timeout=1.5 if "aw_post" in words[0] else 60)
+        written, said = process.communicate(timeout=1.5 if "aw_post" in words[0] else 60)
     except subprocess.TimeoutExpired:
+        told_to_end = True
         process.send_signal(signal.SIGTERM)
-        _, said = process.communicate(timeout=60)
+        written, said = process.communicate(timeout=60)
     status = process.returncode
-    bad = status < 0 or status > 75 or status == 70 or b"Traceback" in said or (status > 2 and not said)
+    if told_to_end and status == -signal.SIGTERM:
+        status = 0
+    bad = status < 0 or status > 75 or status == 70 or b"Traceback" in said or (status > 2 and not said + written)
     return ("status %d, %r" % (status, said[-SHOWN:]) if bad else None), str(status)
 
 

@@ -1,6 +1,6 @@
 #!/usr/bin/env python3
-"""scale.py [--program AW] [--book AW_BOOK] [--roles N] [--messages N] [--posts N] [--seed N] [--jobs N]
-   scale.py --curves [--program AW] [--book AW_BOOK] [--limit SECONDS]
+"""scale.py [--aw AW] [--book AW_BOOK] [--roles N] [--messages N] [--posts N] [--seed N] [--jobs N]
+   scale.py --curves [--aw AW] [--book AW_BOOK] [--only WORD] [--limit SECONDS]
    scale.py --plan CASES [figures]
 
 The first form serves so many offices (64), each a kept node in a process of its own, with posts between them, and begins cases, each of which goes
@@ -21,7 +21,6 @@ from __future__ import annotations
 
 import argparse
 import math
-import os
 import random
 import re
 import resource
@@ -43,7 +42,7 @@ from clerks import Clerks
 from client import Names, Trouble
 from living import Sorry, World
 
-GROUP, MOST_OPEN, AT_ONCE = 300, 4000, 500
+GROUP, MOST_OPEN, AT_ONCE, BESIDE = 300, 4000, 500, 16
 ROLES = 64
 
 
@@ -64,7 +63,7 @@ class Ring(Clerks):
     """Cases that go round, each through one to four offices beside its own."""
 
     def __init__(self, world: World, draw: random.Random) -> None:
-        super().__init__(world, AT_ONCE)
+        super().__init__(world, AT_ONCE, BESIDE)
         self.draw, self.roles = draw, len(world.names.roles)
         self.rules: Counter[str] = Counter()
 
@@ -82,10 +81,10 @@ class Ring(Clerks):
         """Begins cases until so many messages are sent, and sees them through."""
         sent, looked = 0, 0.0
         while sent < messages or self.busy():
-            while sent < messages and self.open < min(MOST_OPEN, max(50, messages // 20)):
+            while sent < messages and self.open < min(MOST_OPEN, max(50, messages // 100)):
                 self.begin()
             worked = self.work()
-            if time.monotonic() > looked + 5 or not worked:
+            if sent < messages and time.monotonic() > looked + (1 if messages < 10_000 else 5):
                 sent, looked = sum(office.sent() for office in self.world.offices.values()), time.monotonic()
             if self.world.wrong:
                 return
@@ -162,7 +161,7 @@ def bound(ring: Ring) -> int:
 def many(given: argparse.Namespace, binary: str, book: str) -> int:
     nodes.alone()
     with tempfile.TemporaryDirectory(dir=nodes.FAST) as name:
-        world = World(binary, form(given.roles), Path(name), given.posts)
+        world = World(binary, form(given.roles), Path(name), given.posts, 1.0)
         try:
             world.start()
             return lived(given, book, Ring(world, random.Random(given.seed)))
@@ -221,18 +220,6 @@ def growth(before: tuple[int, float] | None, now: tuple[int, float] | None) -> s
     return "%.1f" % (math.log(max(now[1], 1e-9) / before[1]) / math.log(now[0] / before[0]))
 
 
-def measured(words: list[str], source: bytes, limit: int, folder: str | None = None) -> tuple[float, int, int | None]:
-    """Seconds of the processor, KiB held, and the status; none where it took too long."""
-    with tempfile.TemporaryFile() as file:
-        file.write(source)
-        file.seek(0)
-        process = subprocess.Popen(words, stdin=file, stdout=subprocess.DEVNULL, stderr=subprocess.DEVNULL, cwd=folder,
-                                   preexec_fn=lambda: resource.setrlimit(resource.RLIMIT_CPU, (limit, limit)))
-        _, code, used = os.wait4(process.pid, 0)
-        process.returncode = os.waitstatus_to_exitcode(code)
-        return used.ru_utime + used.ru_stime, used.ru_maxrss, process.returncode if process.returncode >= 0 else None
-
-
 def larger(given: inputs.Input) -> bytes | None:
     """The same ten times as large; nothing where it is made without a size."""
     try:
@@ -244,21 +231,21 @@ def larger(given: inputs.Input) -> bytes | None:
 def curves(given: argparse.Namespace, binary: str, book: str) -> int:
     """Rows of a table: each family at its largest size of today and at ten times that."""
     print("| Input | Size | Command | MiB read | Status | Processor s | MiB held | Power |\n|---|---|---|---|---|---|---|---|", flush=True)
-    last = {(one.family, command): one for one in inputs.growing() if one.size for command in one.commands}
+    last = {(one.family, command): one for one in inputs.growing() if one.size and given.only in one.family for command in one.commands}
     wrong = 0
     for (family, command), one in last.items():
         before = None
         for size, data in ((one.size, one.data()), (10 * one.size, larger(one))):
             if data is None:
                 continue
-            took, held, status = measured([binary, command], data, given.limit)
+            took, held, status = living.measured([binary, command], data, given.limit)
             wrong += status not in (inputs.DONE, inputs.TOO_LARGE, inputs.NO_MEMORY, inputs.TOO_LONG, None)
             now = (size, took) if status == one.status else None
             print("| %s | %s %s | `%s` | %.2f | %s | %s%.3f | %.1f | %s |" % (
                 family, "{:,}".format(size), one.unit, command, len(data) / 2**20, "none" if status is None else "11, past 16 MiB" if status == 11 else status,
                 "> " if status is None else "", took, held / 1024, growth(before, now)), flush=True)
             before = now
-    wrong += readers(given, binary, book)
+    wrong += readers(given, binary, book) if given.only in "a journal" else 0
     print("%d statuses are none that is called for" % wrong)
     return 1 if wrong else 0
 
@@ -277,7 +264,7 @@ def readers(given: argparse.Namespace, binary: str, book: str) -> int:
             opened = [binary, "node", "clinic", "1", "kept"]
             for words in [*[[book, *words, str(path)] for words in commands], opened]:
                 shown = "aw_book " + " ".join(words[1:-1]) if words is not opened else "node .. kept"
-                took, held, status = measured(words, b"", given.limit) if words is not opened else opening(words, text, folder, given.limit)
+                took, held, status = living.measured(words, b"", given.limit) if words is not opened else opening(words, text, folder, given.limit)
                 wrong += status not in (0, 5, None)
                 now = (count, took) if status == 0 else None
                 print("| a journal | %s events | `%s` | %.2f | %s | %s%.3f | %.1f | %s |" % (
@@ -335,7 +322,7 @@ def run(given: argparse.Namespace) -> int:
         show(plan(figures_of(given.figures), given.plan or 10_000_000, given.machine, given.opening))
         return 0
     living.needs()
-    binary, book = living.program(given.program, "AW", "aw_prog"), living.program(given.book, "AW_BOOK", "aw_book")
+    binary, book = living.program(given.aw, "AW", "aw_prog"), living.program(given.book, "AW_BOOK", "aw_book")
     if given.curves:
         nodes.alone()
         return curves(given, binary, book)
@@ -344,20 +331,22 @@ def run(given: argparse.Namespace) -> int:
 
 def main() -> None:
     asked = argparse.ArgumentParser(description=__doc__, formatter_class=argparse.RawDescriptionHelpFormatter)
-    asked.add_argument("--program", metavar="AW", help="the program aw; else what AW names, else the built one")
+    asked.add_argument("--aw", metavar="AW", help="the program aw; else what AW names, else the built one")
     asked.add_argument("--book", metavar="AW_BOOK", help="the program aw_book; else what AW_BOOK names, else the built one")
     asked.add_argument("--roles", type=int, default=ROLES, metavar="N", help="how many offices, 8 to 64 (64)")
     asked.add_argument("--messages", type=int, default=1_000_000, metavar="N", help="how many messages are sent at least (1,000,000)")
-    asked.add_argument("--posts", type=int, default=4, metavar="N", help="how many posts carry them, each for its share of the offices (4)")
+    asked.add_argument("--posts", type=int, default=8, metavar="N", help="how many posts carry them, each for its share of the offices (8)")
     asked.add_argument("--seed", type=int, default=1, metavar="N", help="the number that all is drawn from (1)")
     asked.add_argument("--jobs", type=int, default=2, metavar="N", help="how many groups of cases are joined beside each other (2)")
     asked.add_argument("--curves", action="store_true", help="each command on ten times the largest inputs instead")
+    asked.add_argument("--only", default="", metavar="WORD", help="with --curves: the inputs with this word in their name, as `journal`")
     asked.add_argument("--limit", type=int, default=120, metavar="SECONDS", help="seconds of the processor after which a run of --curves is ended (120)")
     asked.add_argument("--plan", type=int, metavar="CASES", help="for how many cases the plan is (10,000,000)")
     asked.add_argument("--figures", metavar="FIGURES", help="the figures that a run printed; then the plan alone is worked out")
     asked.add_argument("--machine", type=int, default=23_000, metavar="MIB", help="the memory of a machine of the plan (23,000)")
     asked.add_argument("--opening", type=float, default=60, metavar="SECONDS", help="within how many seconds a node of the plan opens its journal (60)")
     given = asked.parse_args()
+    living.on_end()
     try:
         sys.exit(run(given))
     except KeyboardInterrupt:
