@@ -186,14 +186,16 @@ impl<'a, F: Facts> Sender<'a, F> {
     }
 
     /// The load of a message with these valid references: the equations that they lead to, depth first, where this role sends loads. The
-    /// given reference is a left side in the message already.
+    /// given reference is a left side in the message already. It takes no more memory than they need, as messages stay.
     pub fn load(&self, first: Option<&Ref>, refs: &[Ref]) -> Result<Equations, AllocError>
         requires { refs_ok (grammar_of self.now.grammar.now) refs.now ≡ true }
         ensures { IfOk result (λ load. (s : P.Site) → SendsAs ⟦<F as Facts>⟧ self.now s →
             list_map equation_of load ≡ load_of (grammar_of self.now.grammar.now) s (listed (option_copied first.entry)) refs.now) }
     {
         if self.loads {
-            Ok(Equations::from_vec(self.walk(first, refs, MOST_OF_LOAD)?))
+            let mut load = self.walk(first, refs, MOST_OF_LOAD)?;
+            load.shrink_to_fit();
+            Ok(Equations::from_vec(load))
         } else {
             Ok(Equations::new(self.alloc))
         }
