@@ -93,7 +93,7 @@ fn some_equations_at(
 ) -> Result<(Vec<Equation>, &[u8]), Unread>
     ensures { Gives (λ x. (x.0.items, x.1.now)) result (times spec.equation count bytes.now) }
 {
-    let mut equations = Vec::new(alloc);
+    let mut equations = Vec::with_capacity(alloc, usize::from(count))?;
     let mut rest = bytes;
     for _ in 0..count {
         let (equation, behind) = equation_at(alloc, rest)?;

@@ -6,7 +6,7 @@ use Rattle.aw_msg.proofs.equations.some_equations_at.Goals as goal
 
 pub returns-in_err-equation : goal.returns-in_err-equation
 returns-in_err-equation c =
-    let p = err_from_is_err_and c.from_residual.result c.from_residual.ensures.1 in
+    let p = err_from_is_err_and c.from_residual-in_err-equation.result c.from_residual-in_err-equation.ensures.1 in
     rw (p.1, p.2) (ends c.in_err-equation.field-0.0 equation c.loop.equations.items c.args.count c.loop.counter c.loop.rest.now
     (times equation c.args.count c.args.bytes.now) c.loop-test.true c.in_err-equation.ensures c.loop.invariant)
 
