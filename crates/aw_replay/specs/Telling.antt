@@ -55,13 +55,13 @@ module _ {W : Type 0} (f : Ghosts W) where
   abbrev pub StepsOrNot : World W f → World W f → V.Move → Type 0
   StepsOrNot old new e = (v : V.World) → Shows f old v → Shows f new v ⊎ Shows f new (V.step (plain_of old) v e).world
 
+  -- its lines are printed
+  abbrev pub PrintsStep : World W f → V.Move → Bounded → Bounded → Result Unit PrintFault → Type 0
+  PrintsStep w e old new result = (v : V.World) → Shows f w v → Prints (move_lines (named_by w) v e (V.step (plain_of w) v e)) old new result
+
   -- ---- settling
   abbrev pub IsSettled : World W f → World W f → Type 0
   IsSettled old new = (v : V.World) → Shows f old v → Shows f new (settled (plain_of old) v)
-
-  -- the lines of settling were added to a text
-  abbrev pub AddsSettling : World W f → List ℕ → List ℕ → Type 0
-  AddsSettling old before after = (v : V.World) → Shows f old v → after ≡ before ++ settle_lines (bound_of (plain_of old) v.taken) 0 (named_by old) (plain_of old) v
 
   -- some of its deliveries were made
   abbrev pub SettlesSome : World W f → World W f → Type 0

@@ -15,6 +15,7 @@ mod lines;
 mod replaying;
 mod running;
 mod scheduled;
+mod settling;
 mod stepwise;
 mod telling;
 mod united;

@@ -1,5 +1,8 @@
 //! Events replayed in a world.
-ghost use Rattle.std.specs.Prelude.{◌≡◌, ◌<◌, length, map, Err, IfOk, OnOk, OnErr};
+ghost use Rattle.std.specs.Prelude.{◌≡◌, ◌<◌, true, length, map, Err, IfOk, OnOk, OnErr};
+ghost use Rattle.aw_base.specs.ChoiceFits.{choice_ok};
+ghost use Rattle.aw_choice.specs.ChoiceView.{choice_of};
+ghost use Rattle.aw_choice.specs.Events as E;
 ghost use Rattle.aw_law_worlds.specs.Headline.{HeadlineHolds};
 ghost use Rattle.aw_out.specs.Report.{Prints};
 ghost use Rattle.aw_law_sites.specs.Outputs.{output_of};
@@ -9,9 +12,11 @@ ghost use Rattle.aw_world.specs.WorldView.{plain_of, named_by};
 ghost use Rattle.aw_replay.specs.Telling.{Does, DoesSome, PrintsEvent, DoesAll, DoesFirst, PrintsAll, IsNew, SettlingEnds};
 
 use crate::ending::print_ending;
-use crate::telling::tell;
+use crate::settling::{print_delivery, print_settling};
+use crate::telling::{choice_lines, list_lines};
 use aw_base::NameWriter;
-use aw_list::Text;
+use aw_choice::Choice;
+use aw_list::{Counted, Text};
 use aw_out::{OUTPUT_LIMIT, PrintFault, Report};
 use aw_sched::Event;
 use aw_world::{Workspace, World};
@@ -28,9 +33,48 @@ pub(crate) fn roomy_text(alloc: Global) -> Text {
     }
 }
 
-/// Does what an event asks for, and prints its lines, which are gathered in a text that serves one event after another, as do the
-/// names that were written. After an error
-/// some first choices and deliveries of it were made.
+/// Makes a choice, and prints its lines, which are gathered in a text. After an error it was made or not.
+fn print_choice<W: Workspace>(
+    world: &mut World<W>,
+    choice: &Counted<Choice>,
+    names: &mut NameWriter<'_>,
+    text: &mut Text,
+    report: &mut Report,
+) -> Result<(), PrintFault>
+    requires named { names.old.grammar.now ≡ world.old.accepted.now.grammar }
+    requires ok { choice_ok (plain_of world.old) (choice_of choice.now) ≡ true }
+    ensures accepted { world.new.accepted.now ≡ world.old.accepted.now }
+    ensures loads { world.new.loads ≡ world.old.loads }
+    ensures does { OnOk result (Does ⟦<W as Workspace>⟧ world.old world.new (E.Chooses (choice_of choice.now))) }
+    ensures prints { PrintsEvent ⟦<W as Workspace>⟧ world.old (E.Chooses (choice_of choice.now)) report.old report.new result }
+    ensures some { OnErr result (DoesSome ⟦<W as Workspace>⟧ world.old world.new (E.Chooses (choice_of choice.now))) }
+    ensures names { names.new.grammar.now ≡ names.old.grammar.now }
+{
+    text.truncate(0);
+    choice_lines(world, choice, names, text)?;
+    report.push(text.as_slice())
+}
+
+/// Prints the lines of a worklist, which are gathered in a text.
+fn print_list<W: Workspace>(
+    world: &World<W>,
+    role: u16,
+    names: &mut NameWriter<'_>,
+    text: &mut Text,
+    report: &mut Report,
+) -> Result<(), PrintFault>
+    requires named { names.old.grammar.now ≡ world.now.accepted.now.grammar }
+    requires role { role < (plain_of world.now).roles }
+    ensures prints { PrintsEvent ⟦<W as Workspace>⟧ world.now (E.Lists role) report.old report.new result }
+    ensures names { names.new.grammar.now ≡ names.old.grammar.now }
+{
+    text.truncate(0);
+    list_lines(world, role, names, text)?;
+    report.push(text.as_slice())
+}
+
+/// Does what an event asks for, and prints its lines. They are gathered in a text that serves one step after another, as do the names
+/// that were written. After an error some first choices and deliveries of it were made.
 pub(crate) fn tell_event<W: Workspace>(
     world: &mut World<W>,
     event: &Event,
@@ -47,9 +91,12 @@ pub(crate) fn tell_event<W: Workspace>(
     ensures some { OnErr result (DoesSome ⟦<W as Workspace>⟧ world.old world.new (event_seen event.now)) }
     ensures names { names.new.grammar.now ≡ names.old.grammar.now }
 {
-    text.truncate(0);
-    tell(world, event, names, text)?;
-    report.push(text.as_slice())
+    match event {
+        Event::Choose(choice) => print_choice(world, choice, names, text, report),
+        Event::Deliver(number) => print_delivery(world, *number, names, text, report),
+        Event::Settle => print_settling(world, names, text, report),
+        Event::List(role) => print_list(world, *role, names, text, report),
+    }
 }
 
 /// Does what all events ask for, in order, and prints their lines. After an error some first choices and deliveries were made.
