@@ -10,7 +10,7 @@ use Rattle.aw_law_nodes.specs.Couriers.{Heard, Courier, new_courier, after_sessi
 use Rattle.aw_law_nodes.specs.Encodable.{PushHasBytes, PushesHaveBytes, IsHonestInBytes, BytesAreHonest}
 use Rattle.aw_law_nodes.specs.Nodes.{Frame, Push, Choose, Pull, Listed, all_replies}
 use Rattle.aw_law_nodes.specs.Sizes.{ChoicesSized}
-use Rattle.aw_law_nodes.proofs.ListParts.{get-within}
+use Rattle.aw_store.proofs.ChaseLemmas.{name_at as get-within}
 use Rattle.aw_courier.specs.Carrying.{sessions_of}
 use Rattle.aw_courier.specs.Frames.{size, PlaceFits}
 use Rattle.aw_courier.specs.Honest.{visit_of}

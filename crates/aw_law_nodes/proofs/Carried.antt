@@ -24,12 +24,13 @@ use Rattle.aw_law_nodes.specs.Couriers.{ChoicesOk}
 use Rattle.aw_law_nodes.specs.Nodes.{Frame, Pull, Asked, sites_after, happenings, ReadAs}
 use Rattle.aw_law_nodes.proofs.Mail.{Given}
 use Rattle.aw_law_nodes.proofs.Served.{IsReached, reached-run, reached-mail}
-use Rattle.aw_law_nodes.proofs.ListParts.{cons-inj, get-short, get-within}
+use Rattle.aw_law_nodes.proofs.ListParts.{cons-inj, get-short}
 use Rattle.aw_law_nodes.proofs.Following.{run-follows}
 use Rattle.aw_law_nodes.proofs.Runs.{sites-append, Ran, ran-none, ran-append, choices-go}
 use Rattle.aw_law_nodes.proofs.Knowing.{Knows, knows-start, knows-on}
 use Rattle.aw_law_nodes.proofs.Turns.{rounds-known, visits-go}
 use Rattle.aw_law_nodes.proofs.Still.{IsStill, round-rests}
+use Rattle.aw_store.proofs.ChaseLemmas.{name_at as get-within}
 
 none-false : (ds : List Bool) (i : ℕ) → ((k : ℕ) → k < length ds → slice_get ds k ≡ Some true) → first_false i ds ≡ None
 none-false [] i f = refl

@@ -15,8 +15,9 @@ use Rattle.aw_law_nodes.specs.Couriers.{Heard, Gave, Courier, new_courier, for_r
 use Rattle.aw_law_nodes.specs.Nodes.{Frame, Push, Pull}
 use Rattle.aw_law_nodes.proofs.Mail.{Given}
 use Rattle.aw_law_nodes.proofs.Served.{IsReached, reached-mail}
-use Rattle.aw_law_nodes.proofs.ListParts.{cons-inj, some-inj, get-within}
+use Rattle.aw_law_nodes.proofs.ListParts.{cons-inj, some-inj}
 use Rattle.aw_law_nodes.proofs.Following.{Follows}
+use Rattle.aw_store.proofs.ChaseLemmas.{name_at as get-within}
 
 -- the waiting messages of a role
 pub first-waits : (r : ℕ) (ws ms : List Message) (m : Message) → for_role r ws ≡ m ∷ ms → Member m ws × (m.to ≡ r)

@@ -85,10 +85,5 @@ filter-none p (x ∷ xs) f = ap (λ b. cond b (x ∷ filter p xs) (filter p xs))
 pub some-inj : {A : Type 0} {a b : A} → Some a ≡ Some b → a ≡ b
 some-inj e = cc
 
-pub get-within : {A : Type 0} (xs : List A) (k : ℕ) → k < length xs → (x : A) × (slice_get xs k ≡ Some x)
-get-within [] k l = absurd (omega arith)
-get-within (x ∷ xs) zero l = (x, refl)
-get-within (x ∷ xs) (suc k) l = get-within xs k (omega arith)
-
 pub cons-inj : {A : Type 0} {x y : A} {xs ys : List A} → x ∷ xs ≡ y ∷ ys → (x ≡ y) × (xs ≡ ys)
 cons-inj e = (cc, cc)

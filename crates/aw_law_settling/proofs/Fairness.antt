@@ -19,9 +19,10 @@ use Rattle.aw_law_worlds.proofs.Counting.{count_within, first_place}
 use Rattle.aw_law_worlds.proofs.Quieting.{all-true}
 use Rattle.aw_law_worlds.proofs.Settling.{deliver_taken, run_both}
 use Rattle.aw_law_nodes.proofs.Following.{Follows, run-follows}
-use Rattle.aw_law_nodes.proofs.ListParts.{get-within, set-get}
+use Rattle.aw_law_nodes.proofs.ListParts.{set-get}
 use Rattle.aw_law_nodes.proofs.Runs.{marked}
 use Rattle.aw_law_settling.specs.Fair.{deliveries, front, IsFair, Settles, FairDeliverySettles}
+use Rattle.aw_store.proofs.ChaseLemmas.{name_at as get-within}
 
 -- what is set stays set
 abbrev Kept : List Bool → List Bool → Type 0

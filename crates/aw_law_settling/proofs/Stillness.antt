@@ -27,8 +27,8 @@ use Rattle.aw_law_worlds.specs.ReadRows.{IsPrinted}
 use Rattle.aw_law_worlds.proofs.Places.{member-get}
 use Rattle.aw_law_worlds.proofs.Quieting.{all-true}
 use Rattle.aw_law_worlds.proofs.Settling.{run_both}
-use Rattle.aw_law_nodes.proofs.ListParts.{get-within}
 use Rattle.aw_law_settling.specs.Still.{IsStill, QuietIsStill, StillBecomesQuiet, StillHolds, StillAnswers, StillWorklists, StillArtifacts}
+use Rattle.aw_store.proofs.ChaseLemmas.{name_at as get-within}
 
 -- where each place is set none is not
 set-all : (ds : List Bool) (i : ℕ) → ((k : ℕ) → k < length ds → slice_get ds k ≡ Some true) → first_false i ds ≡ None
