@@ -3,13 +3,14 @@ use Rattle.std.proofs.Common.{◌≡◌, ℕ, suc, ◌+◌, ◌-◌, ◌<◌, �
 use Rattle.std.proofs.Common.{subst, ◌∙◌, arith, inl, inr, append_assoc, append-nil}
 use Rattle.std.specs.Prelude.{nat_eq, nat_lt, nat_le, slice_index, slice_index_or, slice_set, Ok, ◌&&◌}
 use Rattle.std.proofs.lemmas.Bool.{le-leb, lt-leb, lt-ltb, eqb-true, eq-eqb}
+use Rattle.aw_list.proofs.Everyday.{length-slice_set as length-set}
 use Rattle.aw_spelling.proofs.NameCuts.{and_false as and-false}
 use Rattle.aw_out.specs.Wires.{Content}
 use Rattle.aw_term.specs.Rules.{Grammar, get}
 use Rattle.aw_term.specs.Trees.{Never}
 use Rattle.aw_term.proofs.Eaches.{each_push}
 use Rattle.aw_apply.specs.Messages.{Message}
-use Rattle.aw_law_worlds.proofs.Places.{get-set, length-set, same_or_not}
+use Rattle.aw_law_worlds.proofs.Places.{get-set, same_or_not}
 use Rattle.aw_session.specs.Frames.{joined}
 use Rattle.aw_session.proofs.Servings.{session_with}
 use Rattle.aw_law_nodes.specs.Nodes.{Frame, Push, Pull}

@@ -6,6 +6,7 @@ use Rattle.std.proofs.lemmas.List.{map-append}
 use Rattle.std.proofs.lemmas.Bool.{eq-eqb, cases_lt}
 use Rattle.aw_list.specs.Members.{Member}
 use Rattle.aw_list.proofs.Members.{never, member_got}
+use Rattle.aw_list.proofs.Everyday.{get_within as get-within}
 use Rattle.aw_term.specs.Rules.{Grammar, get, upto}
 use Rattle.aw_term.specs.Trees.{Never}
 use Rattle.aw_term.specs.WellFormed.{Each}
@@ -30,7 +31,6 @@ use Rattle.aw_law_nodes.proofs.Runs.{sites-append, Ran, ran-none, ran-append, ch
 use Rattle.aw_law_nodes.proofs.Knowing.{Knows, knows-start, knows-on}
 use Rattle.aw_law_nodes.proofs.Turns.{rounds-known, visits-go}
 use Rattle.aw_law_nodes.proofs.Still.{IsStill, round-rests}
-use Rattle.aw_store.proofs.ChaseLemmas.{name_at as get-within}
 
 none-false : (ds : List Bool) (i : ℕ) → ((k : ℕ) → k < length ds → slice_get ds k ≡ Some true) → first_false i ds ≡ None
 none-false [] i f = refl

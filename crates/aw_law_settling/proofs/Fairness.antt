@@ -2,6 +2,7 @@
 use Rattle.std.specs.Prelude.{slice_get, ◌⊎◌}
 use Rattle.std.proofs.Common.{◌≡◌, ℕ, zero, suc, ◌+◌, ◌-◌, ◌<◌, ◌≤◌, Bool, true, false, List, [], ◌∷◌, ◌++◌, length, Option, Some, None, refl, sym, ap, ◌∙◌, subst, inl, inr, arith}
 use Rattle.std.proofs.lemmas.Option.{slice_get_within, same_Some}
+use Rattle.aw_list.proofs.Everyday.{get_within as get-within}
 use Rattle.aw_term.specs.Choices.{undivided, answer}
 use Rattle.aw_term.specs.Rules.{Grammar}
 use Rattle.aw_term.specs.WellFormed.{Each}
@@ -22,7 +23,6 @@ use Rattle.aw_law_nodes.proofs.Following.{Follows, run-follows}
 use Rattle.aw_law_nodes.proofs.ListParts.{set-get}
 use Rattle.aw_law_nodes.proofs.Runs.{marked}
 use Rattle.aw_law_settling.specs.Fair.{deliveries, front, IsFair, Settles, FairDeliverySettles}
-use Rattle.aw_store.proofs.ChaseLemmas.{name_at as get-within}
 
 -- what is set stays set
 abbrev Kept : List Bool → List Bool → Type 0
