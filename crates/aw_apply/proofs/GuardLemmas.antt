@@ -6,6 +6,7 @@ use Rattle.std.proofs.Math.Bool.{and-true}
 use Rattle.std.proofs.lemmas.Bool.{eqb-true, and_parts}
 use Rattle.std.proofs.lemmas.List.{at_drop_more, drop_more, map-append, length-append}
 use Rattle.std.proofs.lemmas.Option.{slice_get_within, get_or_from_slice_get}
+use Rattle.aw_list.proofs.Everyday.{get_within as name_at}
 use Rattle.aw_term.specs.Trees as P
 use Rattle.aw_term.specs.Trees.{Head, Con, Leaf, Made, Nil, More, nats_eq, head_eq, join}
 use Rattle.aw_term.specs.Names.{Ref}
@@ -24,7 +25,7 @@ use Rattle.aw_store.specs.StoreView.{IsKindOf}
 use Rattle.aw_store.specs.declared.facts.Kind.{Kind}
 use Rattle.aw_store.specs.declared.facts.Kind.TheVariants as kind
 use Rattle.aw_store.specs.declared.facts.Chase.TheVariants as answer
-use Rattle.aw_store.proofs.ChaseLemmas.{name_at, chase_in-none, chase_in-is}
+use Rattle.aw_store.proofs.ChaseLemmas.{chase_in-none, chase_in-is}
 use Rattle.aw_apply.specs.Guard.{guard_end, guard, guard_parts, guard_all}
 use Rattle.aw_apply.specs.Named.{AreNamed, names_at, as_named, behind, is_head}
 use Rattle.aw_apply.specs.GuardView.{step_of}

@@ -2,6 +2,7 @@
 use Rattle.std.proofs.Common.{◌≡◌, ℕ, zero, suc, ◌<◌, ◌≤◌, true, List, [], ◌∷◌, ◌++◌, length, Option, Some, None, refl, ap, sym, ◌∙◌, arith}
 use Rattle.std.specs.Prelude.{slice_get, option_map, nat_lt, nat_le}
 use Rattle.std.proofs.lemmas.Bool.{and_parts, and_from, ltb-true, lt-ltb}
+use Rattle.aw_list.proofs.Everyday.{get_within as here}
 use Rattle.aw_term.specs.Trees as T
 use Rattle.aw_term.specs.Names.{Ref}
 use Rattle.aw_term.specs.Limits.{most_parts}
@@ -10,7 +11,6 @@ use Rattle.aw_store.specs.Equations.{mentions}
 use Rattle.aw_store.specs.NamedRefs.{is_named, all_named, con_parts, as_text}
 use Rattle.aw_store.specs.StoreView.{IsKindOf}
 use Rattle.aw_store.proofs.NameLemmas.{is_named-at}
-use Rattle.aw_store.proofs.ChaseLemmas.{name_at as here}
 use Rattle.aw_cells.specs.declared.stored.Stored.{Stored}
 use Rattle.aw_cells.specs.declared.stored.Stored.TheVariants.{Missing, Same, Con, Num, Text}
 use Rattle.aw_cells.specs.StoredBodies.{with_ref, refs_of, body_from, all_below, fits, is_written, slots_of, text_from, kind_from}

@@ -1,9 +1,10 @@
 -- The equations that names and bodies by slots stand for.
-use Rattle.std.proofs.Common.{◌≡◌, ℕ, zero, suc, ◌<◌, Bool, true, false, cond, List, [], ◌∷◌, ◌++◌, length, Option, Some, None, refl, ap, sym, ◌∙◌, arith, inl, inr}
+use Rattle.std.proofs.Common.{◌≡◌, ℕ, zero, suc, Bool, true, false, cond, List, [], ◌∷◌, ◌++◌, length, Option, Some, None, refl, ap, sym, ◌∙◌, arith, inl, inr}
 use Rattle.std.specs.Prelude.{slice_get, option_and_then, nat_eq, nat_le, ◌||◌}
 use Rattle.std.specs.List.{slice_set}
 use Rattle.std.proofs.lemmas.Bool.{and_parts, and_from, or_parts, eqb-true, eq-eqb, both_ways, cases_lt}
 use Rattle.std.proofs.lemmas.Option.{slice_get_within, slice_get_past}
+use Rattle.aw_list.proofs.Everyday.{get_within as here}
 use Rattle.aw_term.specs.Names.{Ref}
 use Rattle.aw_store.specs.Refs.{ref_eq}
 use Rattle.aw_store.specs.Equations.{Body, Equation, Map, find, mentions}
@@ -12,7 +13,6 @@ use Rattle.aw_store.specs.StoreView.{all_few}
 use Rattle.aw_term.proofs.RefTests.{ref_eq-true, ref_eq-self}
 use Rattle.aw_term.specs.Limits.{most_parts}
 use Rattle.aw_store.proofs.NameLemmas.{is_named-at}
-use Rattle.aw_store.proofs.ChaseLemmas.{name_at as here}
 use Rattle.aw_cells.specs.declared.stored.Stored.{Stored}
 use Rattle.aw_cells.specs.declared.stored.Stored.TheVariants.{Missing}
 use Rattle.aw_cells.specs.StoredBodies.{body_from, fits, is_written}
@@ -128,12 +128,6 @@ pub map-grown : (ns more : List Ref) (cs : List Stored) (order : List ℕ) → a
 map-grown ns more cs [] w n = refl
 map-grown ns more cs (s ∷ ss) w n =
     ap (equation_with _ _) (map-grown ns more cs ss w n) ∙ equation-grown ns more cs s (map_in ns cs ss) w n
-
--- One more body
-pub slice_get-written : {A : Type 0} (xs : List A) (j : ℕ) (x : A) → j < length xs → slice_get (slice_set xs j x) j ≡ Some x
-slice_get-written [] j x l = absurd (omega (arith, l))
-slice_get-written (y ∷ xs) zero x l = refl
-slice_get-written (y ∷ xs) (suc j) x l = slice_get-written xs j x (omega (arith, l))
 
 pub slice_get-others : {A : Type 0} (xs : List A) (j s : ℕ) (x : A) → (s ≡ j → ⊥) → slice_get (slice_set xs j x) s ≡ slice_get xs s
 slice_get-others [] j s x f = refl

@@ -5,17 +5,17 @@ use Rattle.std.specs.List.{slice_set}
 use Rattle.std.proofs.lemmas.Bool.{and_parts, and_from, eq-eqb, cases_eq, cases_lt, ne_eqb, false_from_ne_true}
 use Rattle.std.proofs.lemmas.Option.{none-some, slice_get_past}
 use Rattle.std.proofs.lemmas.List.{length-append}
+use Rattle.aw_list.proofs.Everyday.{get_within as here, set-here as slice_get-written, length-slice_set}
 use Rattle.aw_term.specs.Names.{Ref}
 use Rattle.aw_store.specs.Equations.{find}
 use Rattle.aw_store.specs.NamedRefs.{is_named, body_at}
 use Rattle.aw_store.proofs.NameLemmas.{once_push}
-use Rattle.aw_store.proofs.ChaseLemmas.{name_at as here}
 use Rattle.aw_cells.specs.declared.stored.Stored.{Stored}
 use Rattle.aw_cells.specs.declared.stored.Stored.TheVariants.{Missing}
 use Rattle.aw_cells.specs.StoredBodies.{body_from, fits, is_written}
 use Rattle.aw_cells.specs.Cells.{body_in, map_in, all_fit, is_full, stands, empty_ones, IsSound}
 use Rattle.aw_cells.proofs.BodyLemmas.{fits-grown, body_from-some}
-use Rattle.aw_cells.proofs.MapLemmas.{slice_get-written, slice_get-others, map-named, map-few, find-slot, all_fit-at}
+use Rattle.aw_cells.proofs.MapLemmas.{slice_get-others, map-named, map-few, find-slot, all_fit-at}
 
 -- One more name
 all_fit-push : (m n : ℕ) (cs : List Stored) → m ≤ n → all_fit m cs ≡ true → all_fit n (cs ++ Missing ∷ []) ≡ true
@@ -75,11 +75,6 @@ empty_ones-set : (cs : List Stored) (j : ℕ) (c : Stored) → j < length cs →
 empty_ones-set [] j c l f w = absurd (omega (arith, l))
 empty_ones-set (x ∷ cs) zero c l f w = count-first (is_written c) (is_written x) (empty_ones cs) w f
 empty_ones-set (x ∷ cs) (suc j) c l f w = count-set (is_written x) _ _ (empty_ones-set cs j c (omega (arith, l)) f w)
-
-pub length-slice_set : {A : Type 0} (xs : List A) (j : ℕ) (x : A) → length (slice_set xs j x) ≡ length xs
-length-slice_set [] j x = refl
-length-slice_set (y ∷ xs) zero x = refl
-length-slice_set (y ∷ xs) (suc j) x = ap suc (length-slice_set xs j x)
 
 stands-push : (xs : List ℕ) (s j : ℕ) → stands s (xs ++ j ∷ []) ≡ (nat_eq s j || stands s xs)
 stands-push [] s j = refl

@@ -4,6 +4,7 @@ use Rattle.std.specs.Prelude.{◌⊎◌}
 use Rattle.std.proofs.lemmas.Bool.{cases_order}
 use Rattle.std.proofs.Math.Path.{fun_ext}
 use Rattle.aw_list.proofs.Members.{never, member_got}
+use Rattle.aw_list.proofs.Everyday.{same-test}
 use Rattle.aw_term.specs.Trees.{Never}
 use Rattle.aw_term.specs.Rules as P
 use Rattle.aw_term.specs.Artifacts.{Words}
@@ -19,11 +20,6 @@ occ c r n = record { child = c; result = r; number = n }
 
 abbrev fault : ℕ → Occ → Fault
 fault r o = record { rule = r; occ = o }
-
-same-test : (a b : Bool) → (a ≡ true → b ≡ true) → (b ≡ true → a ≡ true) → a ≡ b
-same-test true b there back = sym (there refl)
-same-test false true there back = back refl
-same-test false false there back = refl
 
 -- two tests that tell the dependences are one
 one-test : (g : P.Grammar) (a b : ℕ → ℕ → ℕ → Bool) → IsDependence g a → IsDependence g b → a ≡ b

@@ -6,6 +6,7 @@ use Rattle.std.specs.Int.{w32, to_be_bytes}
 use Rattle.std.proofs.lemmas.Bool.{ltb-false}
 use Rattle.std.proofs.lemmas.List.{length-drop}
 use Rattle.aw_list.proofs.Members.{never}
+use Rattle.aw_list.proofs.Everyday.{some-inj as some-is}
 use Rattle.aw_term.specs.Artifacts.{Words}
 use Rattle.aw_term.specs.Choices.{Choice}
 use Rattle.aw_term.specs.Rules.{Grammar}
@@ -40,7 +41,7 @@ use Rattle.aw_law_nodes.specs.Sizes.{ChoicesSized, GrammarSized}
 use Rattle.aw_law_nodes.specs.Ending.{RoundsAreBounded}
 use Rattle.aw_law_nodes.specs.Nodes.{Frame, Pull as PullFrame, happenings, ReadAs, Response, WasNew, WasHeld, Contradicts, NotForMe, NotValid, Answers, Sends, Shows, Ended, sites_after, all_replies}
 use Rattle.aw_law_nodes.specs.Told.{told}
-use Rattle.aw_law_nodes.proofs.ListParts.{cons-inj, some-inj as some-is}
+use Rattle.aw_law_nodes.proofs.ListParts.{cons-inj}
 use Rattle.aw_law_nodes.proofs.HeardBytes.{cancel}
 use Rattle.aw_law_nodes.proofs.Turns.{round-known, rounds-known}
 use Rattle.aw_out.specs.Wires.{Content}

@@ -3,12 +3,12 @@ use Rattle.std.proofs.Common.{◌≡◌, ℕ, zero, suc, ◌<◌, ◌≤◌, Lis
 use Rattle.std.specs.Prelude.{slice_index_or, slice_set}
 use Rattle.std.specs.Coded.{le_prop}
 use Rattle.std.proofs.Math.Logic.{∥∥₁_elim}
+use Rattle.aw_list.proofs.Everyday.{length-slice_set as length-set}
 use Rattle.aw_grammar.specs.declared.grammar.Grammar as declared
 use Rattle.aw_grammar.specs.GrammarOf.{grammar_of}
 use Rattle.aw_term.specs.Rules.{Grammar, upto}
 use Rattle.aw_law_nodes.specs.Couriers.{Courier, new_courier}
 use Rattle.aw_courier.specs.Mails.{Mailed, Shows, Holds, HasRoles, SameSize, queue_at, with_queue, IsNextUp}
-use Rattle.aw_law_worlds.proofs.Places.{length-set}
 use Rattle.aw_courier.specs.declared.queue.NextUp.{NextUp}
 use Rattle.aw_courier.proofs.Lists.{index-set, index-within}
 

@@ -4,11 +4,11 @@ use Rattle.std.specs.Prelude.{nat_le, nat_lt, ◌==◌, ◌||◌}
 use Rattle.std.specs.Int.{w32, from_be_bytes}
 use Rattle.std.proofs.lemmas.Bool.{ltb-true, ltb-false, lt-ltb, le-ltb, leb-true, eqb-true}
 use Rattle.std.proofs.lemmas.List.{length-append, length-drop, take-append-le}
+use Rattle.aw_list.proofs.Everyday.{some-inj as some-is}
 use Rattle.aw_term.specs.Rules.{Grammar}
 use Rattle.aw_codec.specs.Reading.{Fault, Short, Bad, ◌>>=◌, number}
 use Rattle.aw_codec.proofs.Laws.{ok_is}
 use Rattle.aw_law_nodes.specs.Couriers.{Heard}
-use Rattle.aw_law_nodes.proofs.ListParts.{some-inj as some-is}
 use Rattle.aw_courier.specs.Replies.{may_have, fits_length, heard_in, known, payload_at, reply, IsNone, size_with, size_from, IsSized}
 use Rattle.aw_courier.specs.declared.replies.Request.{Request}
 

@@ -1,8 +1,9 @@
 -- One step of a turn, by what the courier keeps.
 use Rattle.std.proofs.Common.{◌≡◌, ℕ, ◌+◌, ◌-◌, ◌<◌, ◌≤◌, ◌^◌, Bool, true, false, ◌||◌, List, [], ◌∷◌, ◌++◌, length, Option, Some, None, refl, sym, ap, subst, ◌∙◌, arith, append-nil}
-use Rattle.std.specs.Prelude.{nat_le, ◌==◌, ◌&&◌, slice_index, slice_set, Ok}
+use Rattle.std.specs.Prelude.{nat_le, ◌==◌, slice_index, slice_set, Ok}
 use Rattle.std.proofs.lemmas.Bool.{eqb-true, leb-true}
 use Rattle.std.proofs.lemmas.List.{set-get_or}
+use Rattle.aw_list.proofs.Everyday.{and_true as both-true}
 use Rattle.aw_out.specs.Wires.{Content}
 use Rattle.aw_term.specs.Rules.{Grammar, get}
 use Rattle.aw_apply.specs.Messages.{Message}
@@ -45,11 +46,6 @@ not-equal k n lt = go (k == n) refl
     go : (b : Bool) → (k == n) ≡ b → b ≡ false
     go true t = absurd (let e = eqb-true k n t in omega (arith, e, lt))
     go false t = refl
-
-both-true : (a b : Bool) → (a && b) ≡ true → (a ≡ true) × (b ≡ true)
-both-true true true e = (refl, refl)
-both-true true false e = absurd cc
-both-true false b e = absurd cc
 
 push-heard : (g : Grammar) (bytes : List ℕ) → IsSized request.Push bytes → IsPushed g bytes
 push-heard g bytes sized =

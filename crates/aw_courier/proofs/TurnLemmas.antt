@@ -3,12 +3,14 @@ use Rattle.std.proofs.Common.{◌≡◌, ℕ, suc, ◌+◌, ◌-◌, ◌<◌, �
 use Rattle.std.proofs.Common.{subst, ◌∙◌, arith, inl, inr, append_assoc, append-nil}
 use Rattle.std.specs.Prelude.{nat_eq, nat_lt, nat_le, slice_index, slice_index_or, slice_set, Ok, ◌&&◌}
 use Rattle.std.proofs.lemmas.Bool.{le-leb, lt-leb, lt-ltb, eqb-true, eq-eqb}
+use Rattle.aw_list.proofs.Everyday.{length-slice_set as length-set}
+use Rattle.aw_spelling.proofs.NameCuts.{and_false as and-false}
 use Rattle.aw_out.specs.Wires.{Content}
 use Rattle.aw_term.specs.Rules.{Grammar, get}
 use Rattle.aw_term.specs.Trees.{Never}
 use Rattle.aw_term.proofs.Eaches.{each_push}
 use Rattle.aw_apply.specs.Messages.{Message}
-use Rattle.aw_law_worlds.proofs.Places.{get-set, length-set, same_or_not}
+use Rattle.aw_law_worlds.proofs.Places.{get-set, same_or_not}
 use Rattle.aw_session.specs.Frames.{joined}
 use Rattle.aw_session.proofs.Servings.{session_with}
 use Rattle.aw_law_nodes.specs.Nodes.{Frame, Push, Pull}
@@ -145,10 +147,6 @@ first-push r room now m ms e fits =
 no-pull : (room p left : ℕ) (ys : List Heard) → (nat_lt 0 left && nat_le (size (Pull p)) room) ≡ false → pulls size room left p ys ≡ []
 no-pull room p left [] e = ap (λ b. asks b (Pull p) []) e
 no-pull room p left (y ∷ ys) e = ap (λ b. asks b (Pull p) (after_reply y (pulls size (room - size (Pull p)) (left - 1) (suc p) ys))) e
-
-and-false : (b : Bool) → (b && false) ≡ false
-and-false true = refl
-and-false false = refl
 
 pub no-room : (r room left : ℕ) (now : Courier) (ys : List Heard) → room < 13 → pulling r room left now ys ≡ []
 no-room r room left now ys lt =

@@ -1,12 +1,11 @@
 -- The turns of a courier over a wire of desks that answer as typed sites.
 use Rattle.std.proofs.Common.{◌≡◌, ℕ, ◌<◌, List, [], ◌∷◌, map, length, refl, sym, ap, subst, ◌∙◌}
+use Rattle.aw_list.proofs.Everyday.{get_within as get-within, length-slice_set as length-set}
 use Rattle.aw_term.specs.Rules.{Grammar}
 use Rattle.aw_term.specs.WellFormed.{Each}
 use Rattle.aw_law_sites.specs.Sites.{Site}
-use Rattle.aw_law_worlds.proofs.Places.{length-set}
 use Rattle.aw_law_nodes.specs.Couriers.{session_frames, visit_frames}
 use Rattle.aw_law_nodes.specs.Nodes.{Asked, handled, ask, sites_after}
-use Rattle.aw_law_nodes.proofs.ListParts.{get-within}
 use Rattle.aw_law_nodes.proofs.Runs.{sites-append}
 use Rattle.aw_courier.specs.Honest.{visit_of, IsHonest}
 use Rattle.aw_courier.specs.Turns.{Turn}

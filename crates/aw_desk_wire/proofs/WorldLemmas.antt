@@ -1,6 +1,7 @@
 -- The turns of a courier at the sites of a world, over a wire of desks that answer as typed sites.
 use Rattle.std.proofs.Common.{◌≡◌, ◌<◌, List, [], ◌∷◌, map, length, refl, sym, ap, subst}
 use Rattle.aw_list.proofs.Members.{never}
+use Rattle.aw_list.proofs.Everyday.{get_within as get-within}
 use Rattle.aw_term.specs.Rules.{Grammar}
 use Rattle.aw_term.specs.WellFormed.{Each}
 use Rattle.aw_law_sites.specs.Sites.{Site}
@@ -10,7 +11,6 @@ use Rattle.aw_law_nodes.specs.Couriers.{Heard, Courier, new_courier, after_sessi
 use Rattle.aw_law_nodes.specs.Encodable.{PushHasBytes, PushesHaveBytes, IsHonestInBytes, BytesAreHonest}
 use Rattle.aw_law_nodes.specs.Nodes.{Frame, Push, Choose, Pull, Listed, all_replies}
 use Rattle.aw_law_nodes.specs.Sizes.{ChoicesSized}
-use Rattle.aw_law_nodes.proofs.ListParts.{get-within}
 use Rattle.aw_courier.specs.Carrying.{sessions_of}
 use Rattle.aw_courier.specs.Frames.{size, PlaceFits}
 use Rattle.aw_courier.specs.Honest.{visit_of}

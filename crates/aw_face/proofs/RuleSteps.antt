@@ -1,9 +1,9 @@
 -- One rule after the other.
 use Rattle.std.proofs.Common.{◌≡◌, ℕ, zero, suc, ◌+◌, ◌≤◌, refl, sym, ap, ◌∙◌, add-one, List, [], ◌∷◌, map, drop, length, slice_get, arith, Option, Some, None, IfSome, Bor}
-use Rattle.std.proofs.lemmas.List.{length-map, drop_more}
-use Rattle.std.proofs.lemmas.Option.{slice_get_within, get_or_from_slice_get}
+use Rattle.std.proofs.lemmas.List.{length-map}
 use Rattle.std.proofs.Math.Logic.{∥∥₁_elim}
 use Rattle.std.specs.Coded.{le_prop}
+use Rattle.aw_list.proofs.Everyday.{at_next}
 use Rattle.aw_term.specs.Rules as P
 use Rattle.aw_term.specs.WellFormed.{RuleFits}
 use Rattle.aw_grammar.specs.declared.rule.Sort.{Sort}
@@ -16,10 +16,6 @@ use Rattle.aw_face.specs.Faces.{rule_fault, at_rule, rules_fault}
 pub few_children : (g : P.Grammar) (sorts : List Sort) (found : Option (Bor Rule)) → IfSome found (λ r. ∥ RuleFits g (rule_of sorts r.now) ∥₁) → IfSome found (λ r. length r.now.children ≤ 8)
 few_children g sorts None h = tt
 few_children g sorts (Some r) h = ∥∥₁_elim h le_prop (λ w. omega (arith, w.few_children, length-map r.now.children (child_of sorts)))
-
--- an item is first among those from its place on
-pub at_next : {A : Type 0} (xs : List A) (i : ℕ) (x : A) → slice_get xs i ≡ Some x → drop i xs ≡ x ∷ drop (i + 1) xs
-at_next xs i x e = drop_more xs i x (slice_get_within xs i x e) ∙ ap (λ y. y ∷ drop (i + 1) xs) (get_or_from_slice_get xs i x x e)
 
 pub past_end : {A : Type 0} (xs : List A) (i : ℕ) → None ≡ slice_get xs i → drop i xs ≡ []
 past_end [] zero e = refl

@@ -4,6 +4,7 @@ use Rattle.std.specs.Prelude.{◌⊎◌, ◌||◌, not, nat_eq}
 use Rattle.std.proofs.lemmas.Bool.{eqb-true, and_parts, and_from}
 use Rattle.aw_list.specs.Members.{Member}
 use Rattle.aw_list.proofs.Members.{never, member_left, member_right}
+use Rattle.aw_list.proofs.Everyday.{or_left, or_right}
 use Rattle.aw_term.specs.Trees.{Never}
 use Rattle.aw_term.specs.Rules.{Child, Rule, Grammar}
 use Rattle.aw_iograph.specs.declared.occ.Occ.{Occ}
@@ -22,14 +23,6 @@ all_member p (y ∷ ys) x e (inr m) = all_member p ys x (and_parts _ _ e).1 m
 pub or_true : (a b : Bool) → (a || b) ≡ true → (a ≡ true) ⊎ (b ≡ true)
 or_true true b e = inl refl
 or_true false b e = inr e
-
-or_left : (a b : Bool) → a ≡ true → (a || b) ≡ true
-or_left true b e = refl
-or_left false b e = absurd cc
-
-pub or_right : (a b : Bool) → b ≡ true → (a || b) ≡ true
-or_right true b e = refl
-or_right false b e = e
 
 pub implied : (a b : Bool) → (not a || b) ≡ true → a ≡ true → b ≡ true
 implied true b e f = e

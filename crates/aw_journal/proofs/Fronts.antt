@@ -1,9 +1,10 @@
 -- Whether a whole record stands behind a gate.
-use Rattle.std.specs.Prelude.{◌≡◌, ◌≢◌, ℕ, ◌+◌, ◌^◌, ◌<◌, ◌≤◌, List, ◌∷◌, ◌++◌, Bool, true, false, ◌&&◌, None, Some, length, take, drop, get_or, nat_lt, ◌==◌}
+use Rattle.std.specs.Prelude.{◌≡◌, ◌≢◌, ℕ, ◌+◌, ◌^◌, ◌<◌, ◌≤◌, List, ◌∷◌, ◌++◌, Bool, true, false, None, Some, length, take, drop, get_or, nat_lt, ◌==◌}
 use Rattle.std.specs.declared.option.Option.{Option}
 use Rattle.std.proofs.Common.{refl, sym, ◌∙◌, ap, arith, append_assoc, take-append-drop, length-drop, ltb-true, ltb-false}
 use Rattle.std.proofs.lemmas.List.{length-take, length-take-le, drop-drop, drop_more, drop_all, take-take}
 use Rattle.std.proofs.lemmas.Bool.Decides.{nat_tests}
+use Rattle.aw_spelling.proofs.NameCuts.{and_false as and_none}
 use Rattle.aw_codec.specs.Bytes.{AreBytes}
 use Rattle.aw_codec.proofs.Laws.{AreBytes-drop, AreBytes-take}
 use Rattle.aw_disk.specs.Pages.{IsFile}
@@ -16,10 +17,6 @@ use Rattle.aw_journal.proofs.Bytes.{whole_spelled}
 use Rattle.aw_journal.proofs.Counts.{event_short}
 use Rattle.aw_journal.proofs.Events.{event_taken}
 use Rattle.aw_journal.proofs.Found.{whole_at, none_short}
-
-and_none : (b : Bool) → (b && false) ≡ false
-and_none true = refl
-and_none false = refl
 
 -- behind a gate, open or not, where no whole record stands
 no_record : (gate : ℕ) (rest : List ℕ) → whole rest ≡ None → begins_record (gate ∷ rest) ≡ false

@@ -3,6 +3,7 @@ use Rattle.std.specs.Prelude.{filter, slice_get, slice_set, ◌⊎◌}
 use Rattle.std.proofs.Common.{◌≡◌, ℕ, zero, suc, Bool, true, false, cond, List, [], ◌∷◌, ◌++◌, map, length, Option, Some, None, refl, sym, ap, ◌∙◌, subst, inl, inr, arith, append-nil}
 use Rattle.aw_list.specs.Members.{Member}
 use Rattle.aw_list.proofs.Members.{never, member_got, member_split}
+use Rattle.aw_list.proofs.Everyday.{length-slice_set as length-set, map-set, get-left}
 use Rattle.aw_term.specs.Choices.{Choice}
 use Rattle.aw_term.specs.Rules.{Grammar, get, upto}
 use Rattle.aw_apply.specs.Messages.{Message, Received, BadName, NotMine, Conflict, Repeat, New}
@@ -12,11 +13,10 @@ use Rattle.aw_law_sites.specs.Reacting.{receive}
 use Rattle.aw_law_sites.specs.SiteEvents.{after_choice}
 use Rattle.aw_law_sites.specs.Sites.{Site, Reaction, empty_site, silently}
 use Rattle.aw_law_sites.specs.Worlds.{World, empty_world, site_at, node_of, with_site, Move, Chooses, Delivers, chosen_at, mark_delivered, received_at, deliver_on, step, run}
-use Rattle.aw_law_worlds.proofs.Places.{get-left, length-set}
 use Rattle.aw_law_worlds.proofs.Settling.{run_both}
 use Rattle.aw_law_worlds.proofs.Runs.{length-both}
 use Rattle.aw_law_nodes.specs.Nodes.{world_replies}
-use Rattle.aw_law_nodes.proofs.ListParts.{filter-append, map-get, map-set, set-same}
+use Rattle.aw_law_nodes.proofs.ListParts.{filter-append, map-get, set-same}
 use Rattle.aw_law_cases.specs.Cases.{Cases, of_choice, of_message, keep_site, IsParted, IsOneSided}
 use Rattle.aw_law_cases.specs.CaseWorlds.{keep_marks, keep_world, kept_before, keep_delivery, keep_move, keep_moves, keep_replies, CasesDoNotMeet, RepliesAreKept}
 use Rattle.aw_law_cases.proofs.Choices.{IsUnseen, choose-kept, choose-parted, choose-sided, choose-unseen, keep_chosen}

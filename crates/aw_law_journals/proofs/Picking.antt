@@ -5,6 +5,7 @@ use Rattle.std.proofs.Common.{refl, sym, ap, ◌∙◌, subst, inl, inr, arith, 
 use Rattle.std.proofs.lemmas.Bool.{cases_lt, and_parts, and_from}
 use Rattle.std.proofs.lemmas.Option.{same_Some, slice_get_within}
 use Rattle.aw_list.proofs.Members.{never, member_got}
+use Rattle.aw_list.proofs.Everyday.{length-slice_set as length-set}
 use Rattle.aw_term.specs.Choices.{Choice, Answer, Known, NotHere, Developed, NotItsRule, Arguments, WaitsFor, Mismatch, CircleAt, TooDeep, Taken}
 use Rattle.aw_term.specs.Names.{Ref}
 use Rattle.aw_term.specs.Rules.{Grammar, get}
@@ -18,7 +19,7 @@ use Rattle.aw_law_sites.specs.SiteEvents.{SiteEvent, Chose, Got}
 use Rattle.aw_law_sites.specs.Worlds.{World, empty_world, node_of, Reply, Answered, IsNew, Again, NoMessage, Move, Chooses, Delivers, step, world_after}
 use Rattle.aw_law_worlds.specs.Invariant.{IsSent}
 use Rattle.aw_law_worlds.specs.Laws.{SiteIsFold}
-use Rattle.aw_law_worlds.proofs.Places.{get-set, get-set_other, length-set, same_or_not}
+use Rattle.aw_law_worlds.proofs.Places.{get-set, get-set_other, same_or_not}
 use Rattle.aw_law_worlds.proofs.Settling.{run_both}
 use Rattle.aw_law_nodes.proofs.Mail.{Mail, Given}
 use Rattle.aw_law_journals.specs.Journals.{Entry, of_role, journal_at, firsts, IsReach, Fits}

@@ -5,6 +5,7 @@ use Rattle.std.proofs.lemmas.Bool.{cases_lt}
 use Rattle.std.proofs.lemmas.List.{append-nil}
 use Rattle.aw_list.specs.Members.{Member}
 use Rattle.aw_list.proofs.Members.{never}
+use Rattle.aw_list.proofs.Everyday.{length-slice_set as length-set}
 use Rattle.aw_term.specs.Choices.{Choice, Start, Develop, Outcome, Refused, Starts, Takes}
 use Rattle.aw_term.specs.Names.{Ref}
 use Rattle.aw_term.specs.Rules.{Grammar, get, upto}
@@ -21,7 +22,7 @@ use Rattle.aw_law_sites.specs.ValidNames.{message_ok}
 use Rattle.aw_law_sites.specs.Worlds.{World, empty_world, site_at, node_of, chosen_at, received_at, deliver_on, Move, Chooses, Delivers, step, run, MayCome, world_after}
 use Rattle.aw_law_worlds.specs.Laws.{HomesAreRoles}
 use Rattle.aw_law_worlds.proofs.Lists.{Member-filter, Member-filtered}
-use Rattle.aw_law_worlds.proofs.Places.{get-set, get-set_other, length-set, same_or_not}
+use Rattle.aw_law_worlds.proofs.Places.{get-set, get-set_other, same_or_not}
 use Rattle.aw_law_worlds.proofs.Growing.{did-inj, new-of, cond-new}
 use Rattle.aw_law_nodes.proofs.ListParts.{filter-append, set-short}
 

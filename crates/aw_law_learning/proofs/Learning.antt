@@ -4,6 +4,7 @@ use Rattle.std.proofs.Common.{◌≡◌, ℕ, zero, suc, ◌+◌, ◌<◌, Bool,
 use Rattle.std.proofs.lemmas.Option.{slice_get_within}
 use Rattle.aw_list.specs.Members.{Member}
 use Rattle.aw_list.proofs.Members.{never, member_got, member_split}
+use Rattle.aw_list.proofs.Everyday.{get-left}
 use Rattle.aw_term.specs.Choices.{Choice}
 use Rattle.aw_term.specs.Names.{Ref}
 use Rattle.aw_term.specs.Rules.{Grammar, get, upto}
@@ -21,7 +22,7 @@ use Rattle.aw_law_sites.specs.Worlds.{World, empty_world, site_at, node_of, with
 use Rattle.aw_law_worlds.specs.Invariant.{IsDelivered, IsInvariant, IsSent, sender}
 use Rattle.aw_law_worlds.specs.Laws.{HomesAreRoles, InvariantHolds}
 use Rattle.aw_law_worlds.proofs.Learning.{find-member}
-use Rattle.aw_law_worlds.proofs.Places.{get-left, get-set, get-set_other, same_or_not, set-here}
+use Rattle.aw_law_worlds.proofs.Places.{get-set, get-set_other, same_or_not, set-here}
 use Rattle.aw_law_worlds.proofs.Settling.{run_both}
 use Rattle.aw_law_worlds.proofs.Runs.{length-more}
 use Rattle.aw_law_learning.specs.Learning.{IsLedTo, OfficesAskTheirOwn, OfficesLearnTheirOwn}

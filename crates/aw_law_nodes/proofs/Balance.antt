@@ -2,10 +2,11 @@
 use Rattle.std.specs.Prelude.{slice_set, ◌&&◌, nat_eq, nat_le, nat_lt}
 use Rattle.std.proofs.Common.{◌≡◌, ℕ, zero, suc, ◌+◌, ◌-◌, ◌*◌, ◌<◌, ◌≤◌, Bool, true, false, cond, List, [], ◌∷◌, ◌++◌, length, refl, sym, ap, ◌∙◌, subst, arith, length-append}
 use Rattle.aw_list.proofs.Members.{never}
+use Rattle.aw_list.proofs.Everyday.{length-slice_set as length-set}
 use Rattle.aw_term.specs.Rules.{Grammar, get}
 use Rattle.aw_term.specs.WellFormed.{Each}
 use Rattle.aw_apply.specs.Messages.{Message}
-use Rattle.aw_law_worlds.proofs.Places.{get-set, length-set}
+use Rattle.aw_law_worlds.proofs.Places.{get-set}
 use Rattle.aw_law_nodes.specs.Couriers.{Heard, Pushed, Gave, NoMore, Session, Courier, for_role, without, turn_room, turn_messages, asks, after_reply}
 use Rattle.aw_law_nodes.specs.Couriers.{behind, pulls, pushes, requests, note, noted, after_session, AreReplies, AreTurns, after_all, moves}
 use Rattle.aw_law_nodes.specs.Couriers.{round_moves, flat}

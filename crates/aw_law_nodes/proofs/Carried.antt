@@ -6,6 +6,7 @@ use Rattle.std.proofs.lemmas.List.{map-append}
 use Rattle.std.proofs.lemmas.Bool.{eq-eqb, cases_lt}
 use Rattle.aw_list.specs.Members.{Member}
 use Rattle.aw_list.proofs.Members.{never, member_got}
+use Rattle.aw_list.proofs.Everyday.{get_within as get-within}
 use Rattle.aw_term.specs.Rules.{Grammar, get, upto}
 use Rattle.aw_term.specs.Trees.{Never}
 use Rattle.aw_term.specs.WellFormed.{Each}
@@ -24,7 +25,7 @@ use Rattle.aw_law_nodes.specs.Couriers.{ChoicesOk}
 use Rattle.aw_law_nodes.specs.Nodes.{Frame, Pull, Asked, sites_after, happenings, ReadAs}
 use Rattle.aw_law_nodes.proofs.Mail.{Given}
 use Rattle.aw_law_nodes.proofs.Served.{IsReached, reached-run, reached-mail}
-use Rattle.aw_law_nodes.proofs.ListParts.{cons-inj, get-short, get-within}
+use Rattle.aw_law_nodes.proofs.ListParts.{cons-inj, get-short}
 use Rattle.aw_law_nodes.proofs.Following.{run-follows}
 use Rattle.aw_law_nodes.proofs.Runs.{sites-append, Ran, ran-none, ran-append, choices-go}
 use Rattle.aw_law_nodes.proofs.Knowing.{Knows, knows-start, knows-on}

@@ -3,6 +3,7 @@ use Rattle.std.specs.Prelude.{slice_get, slice_set, ◌⊎◌}
 use Rattle.std.proofs.Common.{◌≡◌, ℕ, zero, suc, ◌<◌, ◌≤◌, Bool, true, false, List, [], ◌∷◌, ◌++◌, length, Option, Some, None, refl, sym, ap, ◌∙◌, subst, inl, inr, arith}
 use Rattle.aw_list.specs.Members.{Member}
 use Rattle.aw_list.proofs.Members.{never, member_left}
+use Rattle.aw_list.proofs.Everyday.{length-slice_set as length-set}
 use Rattle.aw_term.specs.Choices.{Choice}
 use Rattle.aw_term.specs.Rules.{Grammar}
 use Rattle.aw_term.specs.WellFormed.{Each}
@@ -14,7 +15,6 @@ use Rattle.aw_law_sites.specs.SiteEvents.{SiteEvent, Chose, Got}
 use Rattle.aw_law_sites.specs.Sites.{Reaction}
 use Rattle.aw_law_sites.specs.Worlds.{node_of, Move, Chooses, Delivers}
 use Rattle.aw_law_worlds.specs.Laws.{MayCome}
-use Rattle.aw_law_worlds.proofs.Places.{length-set}
 use Rattle.aw_law_nodes.specs.Crashes.{Kept, Posted, Frail, new_kept, kept_at, start_at, kept_after, posts_of, happen, chosen_frail, reaction_of}
 use Rattle.aw_law_nodes.specs.Crashes.{with_delivery, delivered_frail, frail_step, is_dropped, go_back, MayGoBack, FrailEvent, Happens, GoesBack}
 use Rattle.aw_law_nodes.specs.Crashes.{frail_run, AreAllowed}

@@ -3,6 +3,7 @@ use Rattle.std.specs.Prelude.{slice_get, slice_set, not}
 use Rattle.std.proofs.Common.{◌≡◌, ℕ, true, false, List, [], ◌∷◌, ◌++◌, map, length, Option, Some, None, refl, sym, subst, inl, inr}
 use Rattle.std.proofs.lemmas.Bool.{cases_lt}
 use Rattle.std.proofs.lemmas.List.{append-nil}
+use Rattle.aw_list.proofs.Everyday.{get-left}
 use Rattle.aw_term.specs.Choices.{Choice, Start, Develop, Outcome, Refused, Starts, Takes}
 use Rattle.aw_term.specs.Rules.{Grammar, get}
 use Rattle.aw_term.specs.Names.{Ref}
@@ -15,7 +16,7 @@ use Rattle.aw_law_sites.specs.Worlds.{node_of, site_at, with_site, chosen_at, ma
 use Rattle.aw_law_sites.specs.Receiving.{clash, is_repeat, is_mine}
 use Rattle.aw_law_sites.specs.ValidNames.{message_ok}
 use Rattle.aw_law_worlds.specs.Invariant.{IsSent, IsDelivered}
-use Rattle.aw_law_worlds.proofs.Places.{get-set, get-set_other, same_or_not, get-left, set-kept}
+use Rattle.aw_law_worlds.proofs.Places.{get-set, get-set_other, same_or_not, set-kept}
 use Rattle.aw_law_worlds.proofs.Growing.{did-inj, new-of, cond-new}
 use Rattle.aw_law_nodes.specs.Nodes.{received, chosen}
 use Rattle.aw_law_nodes.proofs.ListParts.{set-same, set-short}

@@ -5,17 +5,18 @@ use Rattle.std.proofs.Common.{◌≡◌, ℕ, zero, suc, ◌<◌, ◌≤◌, Boo
 use Rattle.std.proofs.lemmas.Bool.{eqb-true, cases_lt}
 use Rattle.aw_list.specs.Members.{Member}
 use Rattle.aw_list.proofs.Members.{never, member_split, member_left, member_right, member_got}
+use Rattle.aw_list.proofs.Everyday.{get_within as get-within, length-slice_set as length-set, some-inj}
 use Rattle.aw_term.specs.Rules.{Grammar, get, upto}
 use Rattle.aw_term.specs.Trees.{Never}
 use Rattle.aw_apply.specs.Messages.{Message}
 use Rattle.aw_law_sites.specs.Worlds.{World, site_at}
 use Rattle.aw_law_worlds.specs.Invariant.{IsSent, IsDelivered}
-use Rattle.aw_law_worlds.proofs.Places.{get-set, get-set_other, length-set, member-get, same_or_not}
+use Rattle.aw_law_worlds.proofs.Places.{get-set, get-set_other, member-get, same_or_not}
 use Rattle.aw_law_nodes.specs.Couriers.{Heard, Gave, Courier, new_courier, for_role, without, turn_room, note}
 use Rattle.aw_law_nodes.specs.Nodes.{Frame, Push, Pull}
 use Rattle.aw_law_nodes.proofs.Mail.{Given}
 use Rattle.aw_law_nodes.proofs.Served.{IsReached, reached-mail}
-use Rattle.aw_law_nodes.proofs.ListParts.{cons-inj, some-inj, get-within}
+use Rattle.aw_law_nodes.proofs.ListParts.{cons-inj}
 use Rattle.aw_law_nodes.proofs.Following.{Follows}
 
 -- the waiting messages of a role

@@ -1,6 +1,6 @@
 -- Lists that are written at a place, mapped, filtered, or put one behind the other.
 use Rattle.std.specs.Prelude.{slice_get, slice_set, filter}
-use Rattle.std.proofs.Common.{◌≡◌, ℕ, zero, suc, ◌<◌, ◌≤◌, Bool, true, false, cond, List, [], ◌∷◌, ◌++◌, map, length, Some, refl, ap, ◌∙◌, inl, inr, arith}
+use Rattle.std.proofs.Common.{◌≡◌, ℕ, zero, suc, ◌≤◌, Bool, true, false, cond, List, [], ◌∷◌, ◌++◌, map, length, Some, refl, ap, ◌∙◌, inl, inr, arith}
 use Rattle.aw_list.specs.Members.{Member}
 use Rattle.aw_list.proofs.Members.{never}
 use Rattle.aw_term.specs.Rules.{get}
@@ -22,16 +22,6 @@ pub set-get : {A : Type 0} (xs : List A) (i : ℕ) (v : A) → slice_get xs i �
 set-get [] i v e = refl
 set-get (x ∷ xs) zero v e = let p : v ≡ x = cc in ap (λ v. v ∷ xs) p
 set-get (x ∷ xs) (suc i) v e = ap (◌∷◌ x) (set-get xs i v e)
-
-pub set-append : {A : Type 0} (xs ys : List A) (i : ℕ) (v : A) → i < length xs → slice_set (xs ++ ys) i v ≡ slice_set xs i v ++ ys
-set-append [] ys i v l = absurd (omega arith)
-set-append (x ∷ xs) ys zero v l = refl
-set-append (x ∷ xs) ys (suc i) v l = ap (◌∷◌ x) (set-append xs ys i v (omega arith))
-
-pub map-set : {A B : Type 0} (f : A → B) (xs : List A) (i : ℕ) (v : A) → map f (slice_set xs i v) ≡ slice_set (map f xs) i (f v)
-map-set f [] i v = refl
-map-set f (x ∷ xs) zero v = refl
-map-set f (x ∷ xs) (suc i) v = ap (◌∷◌ (f x)) (map-set f xs i v)
 
 pub map-get : {A B : Type 0} (f : A → B) (d : A) (xs : List A) (i : ℕ) → get (f d) (map f xs) i ≡ f (get d xs i)
 map-get f d [] i = refl
@@ -81,14 +71,6 @@ filter-all p (x ∷ xs) f = ap (λ b. cond b (x ∷ filter p xs) (filter p xs)) 
 pub filter-none : {A : Type 0} (p : A → Bool) (xs : List A) → ((x : A) → Member x xs → p x ≡ false) → filter p xs ≡ []
 filter-none p [] f = refl
 filter-none p (x ∷ xs) f = ap (λ b. cond b (x ∷ filter p xs) (filter p xs)) (f x (inl refl)) ∙ filter-none p xs (λ y m. f y (inr m))
-
-pub some-inj : {A : Type 0} {a b : A} → Some a ≡ Some b → a ≡ b
-some-inj e = cc
-
-pub get-within : {A : Type 0} (xs : List A) (k : ℕ) → k < length xs → (x : A) × (slice_get xs k ≡ Some x)
-get-within [] k l = absurd (omega arith)
-get-within (x ∷ xs) zero l = (x, refl)
-get-within (x ∷ xs) (suc k) l = get-within xs k (omega arith)
 
 pub cons-inj : {A : Type 0} {x y : A} {xs ys : List A} → x ∷ xs ≡ y ∷ ys → (x ≡ y) × (xs ≡ ys)
 cons-inj e = (cc, cc)

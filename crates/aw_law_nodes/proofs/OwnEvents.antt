@@ -1,6 +1,7 @@
 -- In a world with crashes each site is that of its own events.
 use Rattle.std.specs.Prelude.{slice_get, slice_set}
 use Rattle.std.proofs.Common.{◌≡◌, ℕ, zero, suc, ◌+◌, ◌<◌, Bool, false, List, [], ◌∷◌, ◌++◌, map, length, Option, Some, None, refl, sym, ap, ◌∙◌, subst, inl, inr, arith}
+use Rattle.aw_list.proofs.Everyday.{length-slice_set as length-set}
 use Rattle.aw_term.specs.Choices.{Choice}
 use Rattle.aw_term.specs.Rules.{Grammar, get, upto}
 use Rattle.aw_term.specs.WellFormed.{Each}
@@ -12,7 +13,7 @@ use Rattle.aw_law_sites.specs.SiteEvents.{SiteEvent, Chose, Got, after_choice, a
 use Rattle.aw_law_sites.specs.Sites.{Site, Reaction, empty_site}
 use Rattle.aw_law_sites.specs.Worlds.{node_of, Move, Chooses, Delivers}
 use Rattle.aw_law_worlds.specs.Laws.{MayCome}
-use Rattle.aw_law_worlds.proofs.Places.{get-set, get-set_other, length-set, same_or_not}
+use Rattle.aw_law_worlds.proofs.Places.{get-set, get-set_other, same_or_not}
 use Rattle.aw_law_nodes.specs.Crashes.{Kept, Posted, Frail, new_kept, kept_at, start_at, kept_after, happen, chosen_frail, reaction_of, with_delivery, delivered_frail, frail_step}
 
 -- sites are those of their own events

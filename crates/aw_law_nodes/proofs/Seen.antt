@@ -4,6 +4,7 @@ use Rattle.std.proofs.lemmas.Option.{slice_get_within}
 use Rattle.std.proofs.Common.{◌≡◌, ℕ, ◌<◌, Bool, true, false, List, [], ◌∷◌, ◌++◌, map, length, Option, Some, None, refl, sym, ap, ◌∙◌, subst, arith, append_assoc}
 use Rattle.std.proofs.lemmas.List.{append-nil, map-append}
 use Rattle.aw_list.proofs.Members.{got_map}
+use Rattle.aw_list.proofs.Everyday.{set-append, map-set}
 use Rattle.aw_term.specs.Choices.{Choice}
 use Rattle.aw_term.specs.Rules.{Grammar, upto}
 use Rattle.aw_term.specs.WellFormed.{Each}
@@ -25,7 +26,7 @@ use Rattle.aw_law_nodes.specs.Crashes.{remaining, world_of}
 use Rattle.aw_law_nodes.specs.Nodes.{ReadAs}
 use Rattle.aw_law_nodes.proofs.OwnEvents.{empty-size, plain_run, run-size, Own, run-own, start-own}
 use Rattle.aw_law_nodes.proofs.Crashed.{without}
-use Rattle.aw_law_nodes.proofs.ListParts.{set-get, set-append, map-set, map-get, map-map, map-self, set-same}
+use Rattle.aw_law_nodes.proofs.ListParts.{set-get, map-get, map-map, map-self, set-same}
 use Rattle.aw_law_nodes.proofs.Served.{read-append}
 use Rattle.aw_law_worlds.proofs.Lists.{length-mapped}
 

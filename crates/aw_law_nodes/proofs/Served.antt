@@ -5,6 +5,7 @@ use Rattle.std.proofs.Common.{◌≡◌, ℕ, zero, suc, ◌<◌, Bool, true, fa
 use Rattle.std.proofs.lemmas.Bool.{eqb-true, eq-eqb}
 use Rattle.aw_list.specs.Members.{Member}
 use Rattle.aw_list.proofs.Members.{never, member_right, member_got}
+use Rattle.aw_list.proofs.Everyday.{length-slice_set as length-set}
 use Rattle.aw_term.specs.Choices.{Choice, Answer}
 use Rattle.aw_term.specs.Names.{Ref}
 use Rattle.aw_term.specs.Rules.{Grammar, get, upto}
@@ -21,7 +22,7 @@ use Rattle.aw_law_sites.specs.Sites.{Site, Reaction, empty_site}
 use Rattle.aw_law_sites.specs.Worlds.{node_of, World, empty_world, site_at, with_site, chosen_at, received_at, deliver_on, Move, Chooses, Delivers, step, run}
 use Rattle.aw_law_worlds.specs.Invariant.{sender, IsSent}
 use Rattle.aw_law_worlds.specs.Laws.{MayCome, world_after}
-use Rattle.aw_law_worlds.proofs.Places.{get-set, get-set_other, length-set, member-get, same_or_not}
+use Rattle.aw_law_worlds.proofs.Places.{get-set, get-set_other, member-get, same_or_not}
 use Rattle.aw_law_worlds.proofs.Settling.{run_both}
 use Rattle.aw_law_nodes.specs.Nodes.{Frame, Push, Choose, Pull, Listed, Answers, NotValid, NotForMe, received, chosen, handle, Asked, site_of, ask}
 use Rattle.aw_law_nodes.specs.Nodes.{sites_after, IsHonestFrame, AreHonest, site_after, replies, all_replies, asked_of, replies_of, happening_of}

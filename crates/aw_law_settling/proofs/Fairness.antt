@@ -2,6 +2,7 @@
 use Rattle.std.specs.Prelude.{slice_get, ◌⊎◌}
 use Rattle.std.proofs.Common.{◌≡◌, ℕ, zero, suc, ◌+◌, ◌-◌, ◌<◌, ◌≤◌, Bool, true, false, List, [], ◌∷◌, ◌++◌, length, Option, Some, None, refl, sym, ap, ◌∙◌, subst, inl, inr, arith}
 use Rattle.std.proofs.lemmas.Option.{slice_get_within, same_Some}
+use Rattle.aw_list.proofs.Everyday.{get_within as get-within}
 use Rattle.aw_term.specs.Choices.{undivided, answer}
 use Rattle.aw_term.specs.Rules.{Grammar}
 use Rattle.aw_term.specs.WellFormed.{Each}
@@ -19,7 +20,7 @@ use Rattle.aw_law_worlds.proofs.Counting.{count_within, first_place}
 use Rattle.aw_law_worlds.proofs.Quieting.{all-true}
 use Rattle.aw_law_worlds.proofs.Settling.{deliver_taken, run_both}
 use Rattle.aw_law_nodes.proofs.Following.{Follows, run-follows}
-use Rattle.aw_law_nodes.proofs.ListParts.{get-within, set-get}
+use Rattle.aw_law_nodes.proofs.ListParts.{set-get}
 use Rattle.aw_law_nodes.proofs.Runs.{marked}
 use Rattle.aw_law_settling.specs.Fair.{deliveries, front, IsFair, Settles, FairDeliverySettles}
 

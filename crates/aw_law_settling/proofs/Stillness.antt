@@ -4,6 +4,7 @@ use Rattle.std.proofs.Common.{◌≡◌, ℕ, suc, ◌<◌, Bool, true, false, L
 use Rattle.std.proofs.lemmas.Option.{slice_get_within, same_Some}
 use Rattle.aw_list.specs.Members.{Member}
 use Rattle.aw_list.proofs.Members.{member_got}
+use Rattle.aw_list.proofs.Everyday.{get_within as get-within}
 use Rattle.aw_term.specs.Artifacts.{Words, artifact_text}
 use Rattle.aw_term.specs.Choices.{undivided, answer}
 use Rattle.aw_term.specs.Configs.{Config}
@@ -27,7 +28,6 @@ use Rattle.aw_law_worlds.specs.ReadRows.{IsPrinted}
 use Rattle.aw_law_worlds.proofs.Places.{member-get}
 use Rattle.aw_law_worlds.proofs.Quieting.{all-true}
 use Rattle.aw_law_worlds.proofs.Settling.{run_both}
-use Rattle.aw_law_nodes.proofs.ListParts.{get-within}
 use Rattle.aw_law_settling.specs.Still.{IsStill, QuietIsStill, StillBecomesQuiet, StillHolds, StillAnswers, StillWorklists, StillArtifacts}
 
 -- where each place is set none is not

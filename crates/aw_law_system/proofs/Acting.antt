@@ -3,11 +3,12 @@ use Rattle.std.specs.Prelude.{take, drop, ◌⊎◌}
 use Rattle.std.proofs.Common.{◌≡◌, ℕ, zero, suc, ◌<◌, ◌≤◌, Bool, false, List, [], ◌∷◌, ◌++◌, map, length, refl, sym, ap, ◌∙◌, subst, inl, inr, arith, append_assoc, length-append}
 use Rattle.std.proofs.lemmas.List.{append-nil, take_all, take-take, take-append-le, take-append-drop, length-take-le}
 use Rattle.aw_list.proofs.Members.{never}
+use Rattle.aw_list.proofs.Everyday.{length-slice_set as length-set}
 use Rattle.aw_term.specs.Rules.{Grammar, get, upto}
 use Rattle.aw_term.specs.Trees.{Never}
 use Rattle.aw_law_sites.specs.SiteEvents.{SiteEvent, site_run}
 use Rattle.aw_law_sites.specs.Sites.{Site, empty_site}
-use Rattle.aw_law_worlds.proofs.Places.{get-set, get-set_other, length-set, same_or_not}
+use Rattle.aw_law_worlds.proofs.Places.{get-set, get-set_other, same_or_not}
 use Rattle.aw_law_nodes.specs.Couriers.{IsPrefix}
 use Rattle.aw_law_nodes.specs.Crashes.{Kept, new_kept, back_kept, kept_frame}
 use Rattle.aw_law_nodes.specs.Nodes.{Frame}

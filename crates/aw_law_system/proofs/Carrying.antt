@@ -4,11 +4,12 @@ use Rattle.std.proofs.Common.{◌≡◌, ℕ, zero, suc, ◌<◌, ◌≤◌, Boo
 use Rattle.std.proofs.lemmas.Bool.{cases_lt}
 use Rattle.aw_list.specs.Members.{Member}
 use Rattle.aw_list.proofs.Members.{never, member_left, member_right, member_split}
+use Rattle.aw_list.proofs.Everyday.{length-slice_set as length-set}
 use Rattle.aw_term.specs.Rules.{Grammar, get, upto}
 use Rattle.aw_apply.specs.Messages.{Message}
 use Rattle.aw_law_sites.specs.Sites.{Site}
 use Rattle.aw_law_worlds.specs.Laws.{Repeats}
-use Rattle.aw_law_worlds.proofs.Places.{get-set, get-set_other, length-set, same_or_not}
+use Rattle.aw_law_worlds.proofs.Places.{get-set, get-set_other, same_or_not}
 use Rattle.aw_law_nodes.specs.Couriers.{Heard, Pushed, Gave, NoMore, hear, Courier, new_courier, for_role, without, turn_room, note, IsReplyTo}
 use Rattle.aw_law_nodes.specs.Crashes.{Kept, CrashesLeaveAWorld}
 use Rattle.aw_law_nodes.specs.Nodes.{Frame, Push, Choose, Pull, Listed, Sends, at_place, handle}

@@ -4,6 +4,7 @@ use Rattle.std.proofs.Common.{◌≡◌, ℕ, ◌<◌, ◌≤◌, Bool, true, fa
 use Rattle.std.proofs.lemmas.List.{take-append-drop}
 use Rattle.aw_list.specs.Members.{Member}
 use Rattle.aw_list.proofs.Members.{never, member_left, member_right, member_split}
+use Rattle.aw_list.proofs.Everyday.{get-left}
 use Rattle.aw_term.specs.Choices.{Choice}
 use Rattle.aw_term.specs.Rules.{Grammar, get}
 use Rattle.aw_term.specs.WellFormed.{Each}
@@ -17,7 +18,7 @@ use Rattle.aw_law_sites.specs.Sites.{Site, Reaction, empty_site}
 use Rattle.aw_law_sites.specs.Worlds.{World, site_at, node_of, Move, Chooses, Delivers, step, run, MayCome, world_after}
 use Rattle.aw_law_worlds.specs.Invariant.{IsSent, IsDelivered}
 use Rattle.aw_law_worlds.specs.Laws.{Repeats}
-use Rattle.aw_law_worlds.proofs.Places.{get-set, get-left, member-get, same_or_not}
+use Rattle.aw_law_worlds.proofs.Places.{get-set, member-get, same_or_not}
 use Rattle.aw_law_nodes.specs.Couriers.{IsPrefix}
 use Rattle.aw_law_nodes.specs.Crashes.{Kept, new_kept, kept_frame, CrashesLeaveAWorld}
 use Rattle.aw_law_nodes.specs.Nodes.{Frame, Push, received, handle}

@@ -6,6 +6,7 @@ use Rattle.std.proofs.lemmas.List.{append-nil, take_all}
 use Rattle.std.proofs.lemmas.Option.{slice_get_within}
 use Rattle.aw_list.specs.Members.{Member}
 use Rattle.aw_list.proofs.Members.{never, member_map, member_unmap}
+use Rattle.aw_list.proofs.Everyday.{some-inj}
 use Rattle.aw_term.specs.Rules.{Grammar, get, upto}
 use Rattle.aw_term.specs.Trees.{Never}
 use Rattle.aw_term.specs.WellFormed.{Each}
@@ -22,7 +23,7 @@ use Rattle.aw_law_nodes.specs.Couriers.{NoMore, hear, Session, Courier, new_cour
 use Rattle.aw_law_nodes.specs.Crashes.{Kept, new_kept, CrashesLeaveAWorld}
 use Rattle.aw_law_nodes.specs.Nodes.{Frame, Pull, Sends, at_place, handle}
 use Rattle.aw_law_nodes.proofs.GoingBack.{back-all}
-use Rattle.aw_law_nodes.proofs.ListParts.{cons-inj, get-short, map-map, some-inj}
+use Rattle.aw_law_nodes.proofs.ListParts.{cons-inj, get-short, map-map}
 use Rattle.aw_law_nodes.proofs.Mail.{Given}
 use Rattle.aw_law_settling.specs.Still.{IsStill, StillHolds}
 use Rattle.aw_law_system.specs.Resting.{Deed, Mine, Others, act_of, Exchange, all_exchanges, exchanged, TakesNone, NoneTaken, IsAtRest, QuietIsAtRest}

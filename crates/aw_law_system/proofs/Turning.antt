@@ -4,12 +4,13 @@ use Rattle.std.proofs.Common.{◌≡◌, ℕ, suc, ◌-◌, ◌<◌, ◌≤◌, 
 use Rattle.std.proofs.lemmas.Bool.{le-leb}
 use Rattle.aw_list.specs.Members.{Member}
 use Rattle.aw_list.proofs.Members.{never}
+use Rattle.aw_list.proofs.Everyday.{length-slice_set as length-set}
 use Rattle.aw_term.specs.Rules.{Grammar, get}
 use Rattle.aw_term.specs.Trees.{Never}
 use Rattle.aw_term.specs.WellFormed.{Each}
 use Rattle.aw_apply.specs.Messages.{Message}
 use Rattle.aw_law_worlds.proofs.Lists.{Member-filtered}
-use Rattle.aw_law_worlds.proofs.Places.{get-set, length-set}
+use Rattle.aw_law_worlds.proofs.Places.{get-set}
 use Rattle.aw_law_nodes.specs.Couriers.{Heard, Pushed, Gave, NoMore, Session, Courier, for_role, turn_room, turn_messages, asks, after_reply, behind}
 use Rattle.aw_law_nodes.specs.Couriers.{pulls, pushes, requests, note, noted, after_session, IsReplyTo, AreReplies, AreTurns, moves, round_moves}
 use Rattle.aw_law_nodes.specs.Couriers.{after_all}

@@ -3,6 +3,7 @@ use Rattle.std.specs.Prelude.{slice_get, ◌⊎◌}
 use Rattle.std.proofs.Common.{Bool, List, Some, [], arith, false, inl, inr, length, refl, subst, suc, sym, zero, ℕ, ◌++◌, ◌<◌, ◌∙◌, ◌∷◌, ◌≡◌, ◌≤◌, true}
 use Rattle.aw_list.specs.Members.{Member}
 use Rattle.aw_list.proofs.Members.{member_got, member_left, member_right, member_split, never}
+use Rattle.aw_list.proofs.Everyday.{get-left}
 use Rattle.aw_term.specs.Configs.{Done}
 use Rattle.aw_term.specs.Names.{Node, Ref, below}
 use Rattle.aw_term.specs.Rules.{Grammar}
@@ -21,7 +22,7 @@ use Rattle.aw_law_worlds.specs.Invariant.{IsBrought, sender}
 use Rattle.aw_law_worlds.specs.Mentioned.{IsMentioned}
 use Rattle.aw_law_worlds.proofs.Lists.{each_by, later_both}
 use Rattle.aw_law_worlds.proofs.Parts.{Apart, Carries, Effect, HeldBefore, HoldsAll, Inv, IsCalled, IsLight, IsTold, Is_held, Mark, Sends_own, Settled, Sound}
-use Rattle.aw_law_worlds.proofs.Places.{get-left, same_or_not}
+use Rattle.aw_law_worlds.proofs.Places.{same_or_not}
 
 pub get-append : {A : Type 0} (xs ys : List A) (k : ℕ) (x : A) → slice_get (xs ++ ys) k ≡ Some x → (slice_get xs k ≡ Some x) ⊎ (Member x ys × (length xs ≤ k))
 get-append [] ys k x e = inr (member_got ys k x e, omega arith)

@@ -2,6 +2,7 @@
 use Rattle.std.specs.Prelude.{nat_eq, slice_get, slice_set}
 use Rattle.std.proofs.Common.{Bool, List, None, Option, Some, [], ap, arith, cond, false, length, map, refl, subst, suc, sym, true, zero, ℕ, ◌++◌, ◌+◌, ◌<◌, ◌∙◌, ◌∷◌, ◌≡◌}
 use Rattle.std.proofs.lemmas.Bool.{eq-eqb, eqb-true}
+use Rattle.aw_list.proofs.Everyday.{length-slice_set as length-set}
 use Rattle.aw_term.specs.Choices.{Choice}
 use Rattle.aw_term.specs.Rules.{Grammar, get, upto}
 use Rattle.aw_accept.proofs.ConfigLemmas.{length-upto}
@@ -14,7 +15,7 @@ use Rattle.aw_law_sites.specs.Sites.{Reaction, Site, empty_site}
 use Rattle.aw_law_sites.specs.Worlds.{Chooses, Delivers, Move, World, chosen_at, deliver_on, empty_world, node_of, received_at, run, site_at, step, with_site}
 use Rattle.aw_law_worlds.specs.Laws.{SiteIsFold}
 use Rattle.aw_law_worlds.proofs.Lists.{length-mapped}
-use Rattle.aw_law_worlds.proofs.Places.{get-set, get-set_other, length-set}
+use Rattle.aw_law_worlds.proofs.Places.{get-set, get-set_other}
 
 run-append : (g : Grammar) (s : Site) (xs ys : List SiteEvent) → site_run g s (xs ++ ys) ≡ site_run g (site_run g s xs) ys
 run-append g s [] ys = refl

@@ -1,5 +1,5 @@
 -- What stands at a place of a list that is written, and of a longer one.
-use Rattle.std.proofs.Common.{◌≡◌, ℕ, zero, suc, ◌<◌, Bool, true, List, [], ◌∷◌, ◌++◌, length, Some, ap, sym, refl, inl, inr, arith}
+use Rattle.std.proofs.Common.{◌≡◌, ℕ, zero, suc, ◌<◌, Bool, true, List, [], ◌∷◌, length, Some, ap, sym, refl, inl, inr, arith}
 use Rattle.std.specs.Prelude.{slice_get, slice_set, ◌⊎◌}
 use Rattle.std.proofs.lemmas.Bool.{cases_lt}
 use Rattle.aw_list.specs.Members.{Member}
@@ -19,11 +19,6 @@ get-set_other d (x ∷ xs) zero (suc j) v h = refl
 get-set_other d (x ∷ xs) (suc i) zero v h = refl
 get-set_other d (x ∷ xs) (suc i) (suc j) v h = get-set_other d xs i j v (λ e. h (ap suc e))
 
-pub length-set : {A : Type 0} (xs : List A) (i : ℕ) (v : A) → length (slice_set xs i v) ≡ length xs
-length-set [] i v = refl
-length-set (x ∷ xs) zero v = refl
-length-set (x ∷ xs) (suc i) v = ap suc (length-set xs i v)
-
 pub set-here : (xs : List Bool) (i : ℕ) → i < length xs → slice_get (slice_set xs i true) i ≡ Some true
 set-here [] i h = absurd (omega arith)
 set-here (x ∷ xs) zero h = refl
@@ -42,11 +37,6 @@ set-from (x ∷ xs) zero zero e = inr refl
 set-from (x ∷ xs) zero (suc k) e = inl e
 set-from (x ∷ xs) (suc i) zero e = inl e
 set-from (x ∷ xs) (suc i) (suc k) e = elim (set-from xs i k e) [ inl a ↦ inl a | inr a ↦ inr (ap suc a) ]
-
-pub get-left : {A : Type 0} (xs ys : List A) (k : ℕ) (x : A) → slice_get xs k ≡ Some x → slice_get (xs ++ ys) k ≡ Some x
-get-left [] ys k x e = absurd cc
-get-left (z ∷ xs) ys zero x e = e
-get-left (z ∷ xs) ys (suc k) x e = get-left xs ys k x e
 
 pub same_or_not : (a b : ℕ) → (a ≡ b) ⊎ (a ≡ b → Never)
 same_or_not a b = elim (cases_lt a b) [ inl x ↦ inr (λ e. absurd (omega arith)) | inr x ↦ elim (cases_lt b a) [ inl y ↦ inr (λ e. absurd (omega arith)) | inr y ↦ inl (omega arith) ] ]

@@ -4,6 +4,7 @@ use Rattle.std.proofs.Common.{Bool, List, None, Option, Some, [], ap, arith, fal
 use Rattle.std.proofs.lemmas.Option.{same_Some, slice_get_within}
 use Rattle.aw_list.specs.Members.{Member}
 use Rattle.aw_list.proofs.Members.{member_got, member_unmap, never}
+use Rattle.aw_list.proofs.Everyday.{length-slice_set as length-set, get-left}
 use Rattle.aw_term.specs.Artifacts.{Words}
 use Rattle.aw_term.specs.Choices.{Choice, Develop, Outcome, Refused, Start, Starts, Takes}
 use Rattle.aw_term.specs.Names.{Ref, root}
@@ -38,7 +39,7 @@ use Rattle.aw_law_worlds.proofs.Rooted.{rooted_kept}
 use Rattle.aw_law_worlds.proofs.Sorts.{choice_node, home_within}
 use Rattle.aw_law_worlds.proofs.Starting.{IsHomed, start_in, starting}
 use Rattle.aw_law_worlds.proofs.Taking.{developing, in_outcome, keyed_next}
-use Rattle.aw_law_worlds.proofs.Places.{get-left, get-set, get-set_other, length-set, set-from, set-here, set-kept}
+use Rattle.aw_law_worlds.proofs.Places.{get-set, get-set_other, set-from, set-here, set-kept}
 
 pub length-both : {A B : Type 0} (xs : List A) (ys : List B) (f : A → B) (zs : List A) → length ys ≡ length xs → length (ys ++ map f zs) ≡ length (xs ++ zs)
 length-both [] [] f [] e = refl

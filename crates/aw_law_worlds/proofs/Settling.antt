@@ -2,13 +2,13 @@
 use Rattle.std.proofs.Common.{◌≡◌, ℕ, zero, suc, ◌≤◌, arith, false, List, [], ◌∷◌, ◌++◌, length, map, ap, sym, ◌∙◌, refl, subst}
 use Rattle.std.proofs.lemmas.Option.{slice_get_within}
 use Rattle.std.specs.Prelude.{slice_get, Option, Some, None}
+use Rattle.aw_list.proofs.Everyday.{get-left}
 use Rattle.aw_term.specs.Rules.{Grammar}
 use Rattle.aw_apply.specs.Messages.{Message, Received, BadName, NotMine, Conflict, Repeat, New}
 use Rattle.aw_law_sites.specs.Sites.{Reaction}
 use Rattle.aw_law_sites.specs.Reacting.{receive}
 use Rattle.aw_law_sites.specs.Worlds.{World, Move, count_set, deliver, deliver_on, received_at, run, settle, site_at, step, undelivered}
 use Rattle.aw_law_worlds.proofs.Counting.{count_new, count_unset, first_place, none_past}
-use Rattle.aw_law_worlds.proofs.Places.{get-left}
 
 got_taken : (v : World) (k to : ℕ) (r : Received Reaction) → (received_at v k to r).world.taken ≡ v.taken
 got_taken v k to BadName = refl

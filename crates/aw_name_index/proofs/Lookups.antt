@@ -83,7 +83,7 @@ none_of (Some k) h = cc
 pub no_place : (x : List ℕ) (names : List (List ℕ)) → stands x names ≡ false → place_of x names ≡ None
 no_place x names h = none_of (place_of x names) (stands_is_placed x names ∙ h)
 
-some_of : (o : Option ℕ) → is_some o ≡ true → (i : ℕ) × (o ≡ Some i)
+pub some_of : (o : Option ℕ) → is_some o ≡ true → (i : ℕ) × (o ≡ Some i)
 some_of None h = cc
 some_of (Some i) h = (i, refl)
 

@@ -187,9 +187,6 @@ opens_slot o slot at (Ok again) old new w h = λ r e.
     subst (λ (x : Chased). Begun o (end_draft o r x) again old new) (sym f) (h r head rs b)
 opens_slot o slot at (Err fault) old new w h = tt
 
-pub some_is : {A : Type 0} {x y : A} → Some x ≡ Some y → x ≡ y
-some_is e = cc
-
 -- what is begun behind a chase is begun, whatever the chase kept
 pub begun_since : (o : Origin) (all : ℕ → Draft) (again : Option Span) (old mid new : Desk) → mid.printing ≡ old.printing → mid.pieces ≡ old.pieces →
     Begun o all again mid new → Begun o all again old new

@@ -2,6 +2,7 @@
 use Rattle.std.proofs.Common.{◌≡◌, ℕ, zero, suc, ◌<◌, List, [], ◌∷◌, length, Some, inl, inr, refl, sym, ap, ◌∙◌, subst}
 use Rattle.std.specs.Prelude.{Option, ◌⊎◌, slice_get}
 use Rattle.std.proofs.lemmas.Option.{slice_get_within}
+use Rattle.aw_list.proofs.Everyday.{get_within as name_at}
 use Rattle.aw_term.specs.Names.{Ref}
 use Rattle.aw_store.specs.Equations.{Same, Map, find}
 use Rattle.aw_store.specs.Chase.{Chased, Found, Missing, Round, chase_on, chase_in, chase}
@@ -10,7 +11,6 @@ use Rattle.aw_store.specs.declared.facts.Chase.{Chase}
 use Rattle.aw_store.specs.declared.facts.Chase.TheVariants as answer
 use Rattle.aw_store.proofs.Ends.{At_body, At_missing, follows}
 use Rattle.aw_store.proofs.ChaseEnds.{ends-chase, chase_in-ends, round-in}
-use Rattle.aw_store.proofs.ChaseLemmas.{name_at}
 use Rattle.aw_print.specs.declared.ends.Ends.{Ends}
 use Rattle.aw_print.specs.Ends.{AreEnds, Keeps, KeepsNone, EndsAt, NamesNext, end_at}
 

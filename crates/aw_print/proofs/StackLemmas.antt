@@ -1,10 +1,11 @@
 -- Values on a stack.
-use Rattle.std.proofs.Common.{◌≡◌, ℕ, zero, suc, ◌-◌, ◌<◌, ◌≤◌, List, [], ◌∷◌, ◌++◌, map, drop, take, length, codes, Some, Bool, true, false, cond}
+use Rattle.std.proofs.Common.{◌≡◌, ℕ, suc, ◌-◌, ◌<◌, ◌≤◌, List, [], ◌∷◌, ◌++◌, map, drop, take, length, codes, Some, Bool, true, false, cond}
 use Rattle.std.proofs.Common.{refl, sym, ap, ◌∙◌, subst, arith, append_assoc, append-nil, length-append}
 use Rattle.std.specs.Prelude.{Option, None, slice_get, slice_range, option_and_then}
 use Rattle.std.proofs.lemmas.Option.{slice_get_within}
 use Rattle.std.proofs.lemmas.List.{drop-append-le, take-append-le, length-drop, take_all}
 use Rattle.std.proofs.lemmas.Bool.{and_parts, both_ways}
+use Rattle.aw_list.proofs.Everyday.{get_within as name_at, from_here as drop_at}
 use Rattle.aw_term.specs.Trees as T
 use Rattle.aw_term.specs.Trees.{Head}
 use Rattle.aw_term.specs.Names.{Ref, ref_eq}
@@ -18,7 +19,7 @@ use Rattle.aw_store.specs.Chase.{Chased, Found, Missing, Round}
 use Rattle.aw_store.specs.ChaseView.{IsChasedTo}
 use Rattle.aw_store.specs.declared.facts.Kind.TheVariants as kind
 use Rattle.aw_store.specs.declared.facts.Chase.TheVariants as answer
-use Rattle.aw_store.proofs.ChaseLemmas.{name_at, chase_in-none}
+use Rattle.aw_store.proofs.ChaseLemmas.{chase_in-none}
 use Rattle.aw_out.specs.Report.{Bounded}
 use Rattle.aw_out.proofs.Printing.{printed-nil}
 use Rattle.aw_print.specs.declared.stack.Piece.{Piece}
@@ -43,11 +44,6 @@ live_push names (q ∷ ps) p a b = (a.0, live_push names ps p a.1 b)
 pub live_pop : (names : List Ref) (ps : List Piece) (p : Piece) → AreLive names (ps ++ p ∷ []) → AreLive names ps × IsLive names p
 live_pop names [] p a = (tt, a.0)
 live_pop names (q ∷ ps) p a = let h = live_pop names ps p a.1 in ((a.0, h.0), h.1)
-
-pub drop_at : {A : Type 0} (xs : List A) (i : ℕ) (x : A) → slice_get xs i ≡ Some x → drop i xs ≡ x ∷ drop (suc i) xs
-drop_at [] i x e = absurd cc
-drop_at (y ∷ xs) zero x e = let p : y ≡ x = cc in ap (λ z. z ∷ xs) p
-drop_at (y ∷ xs) (suc i) x e = drop_at xs i x e
 
 -- a part at a slot, behind the first
 pub next_part : (m : ℕ) (w : Words) (k : Map) (names parts : List Ref) (s i j : ℕ) → i < length parts → j ≡ suc i → slice_get names s ≡ slice_get parts i →

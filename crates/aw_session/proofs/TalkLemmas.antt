@@ -4,6 +4,7 @@ use Rattle.aw_out.specs.Causes.{Rose}
 use Rattle.aw_out.specs.Wires.{Session, Content, Both, with_last, last_left, after_read, after_write, after_fault, ReadsInSession, WritesInSession}
 use Rattle.aw_out.specs.declared.edge.Got.TheVariants.{Read, End, Failed}
 use Rattle.aw_out.specs.declared.edge.Put.TheVariants.{Took, Failed as NotTaken}
+use Rattle.aw_grammar.proofs.FaultlessRule.{or_true as or-true}
 use Rattle.aw_session.specs.Talking.{grown, Grows, Counts, Talks}
 use Rattle.aw_session.proofs.Servings.{or-assoc, or-false}
 
@@ -39,10 +40,6 @@ grown-write bytes more s = let r = append-nil s.read in let f = or-false s.faile
 -- some was read
 grown-read : (bytes left : List ℕ) (s : Session) → after_read bytes left s ≡ grown bytes [] false left s
 grown-read bytes left s = let w = append-nil s.written in let f = or-false s.failed in cc
-
-or-true : (b : Bool) → (b || true) ≡ true
-or-true true = refl
-or-true false = refl
 
 -- a call failed
 grown-fault : (s : Session) → after_fault s ≡ grown [] [] true s.left s

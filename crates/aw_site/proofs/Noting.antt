@@ -3,6 +3,7 @@ use Rattle.std.proofs.Common.{◌≡◌, ℕ, ◌+◌, ◌<◌, length, take, ge
 use Rattle.std.specs.Prelude.{◌||◌, ◌&&◌}
 use Rattle.std.proofs.Math.Bool.{or-false}
 use Rattle.std.proofs.Math.Path.{fun_ext}
+use Rattle.aw_list.proofs.Everyday.{same-test as both_tests}
 use Rattle.aw_term.specs.Names.{Ref, ref_eq}
 use Rattle.aw_term.proofs.RefTests.{ref_eq-true, ref_eq-self}
 use Rattle.aw_law_sites.specs.Asking.{asked_too}
@@ -12,11 +13,6 @@ use Rattle.aw_subs.specs.declared.subs.Subs.{Subs}
 use Rattle.aw_subs.specs.Entries.{is_asked, watches}
 use Rattle.aw_site_repeat.specs.Holders.{ShowsAsked, ShowsWatchers}
 use Rattle.aw_site.proofs.Steps.{take_here}
-
-both_tests : (b c : Bool) → (b ≡ true → c ≡ true) → (c ≡ true → b ≡ true) → b ≡ c
-both_tests true c f g = sym (f refl)
-both_tests false true f g = g refl
-both_tests false false f g = refl
 
 ref_eq-sym : (x r : Ref) → ref_eq x r ≡ ref_eq r x
 ref_eq-sym x r = both_tests (ref_eq x r) (ref_eq r x)

@@ -4,6 +4,7 @@ use Rattle.std.specs.Prelude.{◌&&◌, not, nat_lt, is_some}
 use Rattle.std.proofs.lemmas.Bool.{and_parts, ltb-true}
 use Rattle.std.proofs.Math.Logic.{∥∥₁_elim}
 use Rattle.std.specs.Coded.{le_prop}
+use Rattle.aw_list.proofs.Everyday.{is_false as not_true}
 use Rattle.aw_term.specs.Names.{Ref}
 use Rattle.aw_term.specs.Rules.{Grammar}
 use Rattle.aw_term.specs.Held.{Held, held_of}
@@ -20,7 +21,6 @@ use Rattle.aw_law_sites.specs.Reacting.{received_on, receive, react}
 use Rattle.aw_law_sites.specs.Sites.{Site}
 use Rattle.aw_law_sites.specs.ValidNames.{message_ok, names_ok, origin_ok}
 use Rattle.aw_space.specs.Placings.{MayBeCalled, MayBeLearnt}
-use Rattle.aw_space.proofs.Told.{is_false as not_true}
 use Rattle.aw_site_repeat.specs.Holders.{holder, IsOfRole}
 use Rattle.aw_site_repeat.specs.Views.{kind_of}
 use Rattle.aw_site.specs.Judged.{IsFresh}

@@ -6,6 +6,7 @@ use Rattle.std.proofs.Math.Bool.{Bool-set}
 use Rattle.std.proofs.Math.Nat.{ℕ_set}
 use Rattle.std.proofs.lemmas.Bool.{eqb-true, leb-true, and_parts}
 use Rattle.std.proofs.lemmas.Option.{slice_get_within}
+use Rattle.aw_name_index.proofs.Lookups.{some_of as is_there}
 use Rattle.aw_term.specs.Trees.{Head, Con, Num, Text}
 use Rattle.aw_term.specs.Names.{Step, Node, Slot, Result, Part, Ref}
 use Rattle.aw_term.specs.Rules.{Child, Rule, Sort, Grammar, child_at, sort_of_step, sort_after, sort_of}
@@ -29,10 +30,6 @@ use Rattle.aw_msg.specs.MessageRanges.{BodyInRange, EquationInRange, LoadInRange
 use Rattle.aw_msg.proofs.ValidMessages.{IsValidRef, IsValidBody, IsValidEquation, IsValidLoad, IsValidCall, IsValidKind}
 
 -- ---- the name of a node
-
-is_there : (o : Option ℕ) → is_some o ≡ true → (s : ℕ) × (o ≡ Some s)
-is_there None e = absurd cc
-is_there (Some s) e = (s, refl)
 
 numbered : (cs : List Child) (k : ℕ) (c : Child) → child_at cs k ≡ Some c → length cs ≤ most_children → From1To most_children k
 numbered cs zero c e few = absurd cc

@@ -14,6 +14,7 @@ use Rattle.aw_term.specs.Views.{ground_of}
 use Rattle.aw_term.specs.WellFormed.{Each}
 use Rattle.aw_term.proofs.Eaches.{each_map}
 use Rattle.aw_name.specs.SameNodes.{node_self}
+use Rattle.aw_spelling.proofs.NameCuts.{and_false}
 use Rattle.aw_term.proofs.ByNodeLemmas.{other_before, other_after}
 use Rattle.aw_choice.specs.ChoiceView.{choice_of}
 use Rattle.aw_choice.specs.declared.choice.Choice.{Choice}
@@ -59,10 +60,6 @@ use Rattle.aw_space.proofs.TakenOn.{Took}
 idle_after : (n : Node) (hs : List Held) → Each (λ (h : Held). node_lt n h.node ≡ true) hs → is_done n hs ≡ false
 idle_after n [] high = refl
 idle_after n (h ∷ hs) high = ap (λ b. (b && is_some h.done) || is_done n hs) (other_after n h.node high.0) ∙ idle_after n hs high.1
-
-and_false : (b : Bool) → (b && false) ≡ false
-and_false true = refl
-and_false false = refl
 
 pub idle_here : (hs : List Held) (i : ℕ) (h : Held) → Up hs → slice_get hs i ≡ Some h → h.done ≡ None → is_done h.node hs ≡ false
 idle_here [] i h up e idle = absurd cc

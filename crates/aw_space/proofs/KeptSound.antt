@@ -2,12 +2,12 @@
 use Rattle.std.proofs.Common.{◌≡◌, ℕ, zero, suc, Bool, true, false, cond, List, [], ◌∷◌, ◌++◌, Some, slice_get, refl, ap, ◌∙◌}
 use Rattle.std.specs.Prelude.{not, ◌&&◌, ◌||◌, is_some}
 use Rattle.std.proofs.lemmas.Bool.{and_parts, and_from}
+use Rattle.aw_list.proofs.Everyday.{or_right as or_late}
 use Rattle.aw_term.specs.Names.{Node, Ref, node_eq, node_lt}
 use Rattle.aw_term.specs.Rules.{Grammar}
 use Rattle.aw_term.specs.WellFormed.{Each}
 use Rattle.aw_name.specs.SameNodes.{node_self}
 use Rattle.aw_choice.specs.declared.choice.Choice.{Choice}
-use Rattle.aw_iograph.proofs.Deciding.{or_right as or_late}
 use Rattle.aw_store.specs.Equations.{Equation, Map}
 use Rattle.aw_store.specs.NamedRefs.{all_named}
 use Rattle.aw_node_list.specs.declared.held.Held.{Held}

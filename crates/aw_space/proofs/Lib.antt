@@ -18,7 +18,6 @@ pub mod Taken
 pub mod Carried
 pub mod Begun
 pub mod CarryingOut
-pub mod Results
 pub mod Refused
 pub mod TakenIn
 pub mod Waking

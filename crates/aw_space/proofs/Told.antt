@@ -2,6 +2,7 @@
 use Rattle.std.proofs.Common.{◌≡◌, ℕ, Bool, true, false, cond, List, [], ◌∷◌, Option, Some, None, refl, ap}
 use Rattle.std.specs.Prelude.{not, ◌||◌}
 use Rattle.std.proofs.lemmas.Bool.{and_parts, and_from}
+use Rattle.aw_list.proofs.Everyday.{is_false}
 use Rattle.aw_term.specs.Rules.{Grammar}
 use Rattle.aw_term.specs.Held as P
 use Rattle.aw_store.specs.Equations.{Body, Equation, Map, find}
@@ -14,10 +15,6 @@ use Rattle.aw_space.specs.Sound.{all_done, is_done}
 use Rattle.aw_space.specs.Spaces.{Space, is_home, clash_with}
 use Rattle.aw_space.proofs.Keeping.{done-push}
 use Rattle.aw_space.proofs.KeptValid.{valid_append}
-
-pub is_false : (b : Bool) → not b ≡ true → b ≡ false
-is_false true e = absurd cc
-is_false false e = refl
 
 one_done : (g : Grammar) (role : ℕ) (hs : List Held) (k : Map) (e : Equation) (o : Option Body) → is_home g role e.left.node ≡ false → all_done g role hs k ≡ true →
     all_done g role hs (add_on o k e) ≡ true

@@ -5,6 +5,7 @@ use Rattle.std.proofs.lemmas.List.{map-append, length-map}
 use Rattle.std.proofs.lemmas.Bool.{and_parts, and_from, both_ways, eq-eqb, eqb-true, leb-true, leb-false}
 use Rattle.std.specs.List.{list_any}
 use Rattle.aw_list.proofs.Members.{got_map as get_map}
+use Rattle.aw_list.proofs.Everyday.{get_within, get-left as get_front}
 use Rattle.aw_spelling.specs.Spelling.{is_name}
 use Rattle.aw_name_index.specs.Places.{number_of, place_of}
 use Rattle.aw_name_index.proofs.FirstTold.{NoneHolds}
@@ -37,7 +38,7 @@ use Rattle.aw_spec.specs.Reading.{depends_tests, with_depends, free_tests, with_
 use Rattle.aw_spec.specs.Views.{spec_seen}
 use Rattle.aw_spec.proofs.KeptLines.{reading_keeps}
 use Rattle.aw_spec.proofs.Tested.{tested_on}
-use Rattle.aw_spec.proofs.TypeSteps.{alongside_push, alongside_map, alongside_set, alongside_length, get_front, get_within, any_set, any_none, later_push, each_untested, others_apart, numbers_within}
+use Rattle.aw_spec.proofs.TypeSteps.{alongside_push, alongside_map, alongside_set, alongside_length, any_set, any_none, later_push, each_untested, others_apart, numbers_within}
 
 pub on_is : (x y : Spec) → On x ≡ On y → x ≡ y
 on_is x y e = cc

@@ -53,11 +53,6 @@ alongside_each R P (a ∷ xs) (b ∷ ys) f all = (f a b all.0, alongside_each R 
 
 -- what stands at a place of a list
 
-pub get_front : {A : Type 0} (xs ys : List A) (i : ℕ) (x : A) → slice_get xs i ≡ Some x → slice_get (xs ++ ys) i ≡ Some x
-get_front [] ys i x e = cc
-get_front (a ∷ xs) ys zero x e = e
-get_front (a ∷ xs) ys (suc i) x e = get_front xs ys i x e
-
 -- an item of a mapped list comes from one of the list
 pub mapped_at : {A B : Type 0} (f : A → B) (xs : List A) (i : ℕ) (y : B) → slice_get (map f xs) i ≡ Some y → (x : A) × (slice_get xs i ≡ Some x) × (f x ≡ y)
 mapped_at f [] i y e = cc
@@ -68,11 +63,6 @@ pub some_within : {A : Type 0} (xs : List A) (i : ℕ) (x : A) → slice_get xs 
 some_within [] i x e = cc
 some_within (a ∷ xs) zero x e = omega arith
 some_within (a ∷ xs) (suc i) x e = omega (arith, some_within xs i x e)
-
-pub get_within : {A : Type 0} (xs : List A) (i : ℕ) → i < length xs → (x : A) × (slice_get xs i ≡ Some x)
-get_within [] i h = absurd (omega (arith, h))
-get_within (a ∷ xs) zero h = (a, refl)
-get_within (a ∷ xs) (suc i) h = get_within xs i (omega (arith, h))
 
 pub any_set : {A : Type 0} (xs : List (Option A)) (i : ℕ) (x : A) → i < length xs → list_any (λ (o : Option A). is_some o) (set xs i (Some x)) ≡ true
 any_set [] i x h = absurd (omega (arith, h))

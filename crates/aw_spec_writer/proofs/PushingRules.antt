@@ -1,12 +1,13 @@
 -- Texts that grow by children and by rules.
 use Rattle.std.proofs.Common.{◌≡◌, ℕ, ◌+◌, sym, ap, ◌∙◌, subst, List, [], ◌∷◌, ◌++◌, map, drop, slice_get, Some, None, append_assoc, append-nil}
+use Rattle.aw_list.proofs.Everyday.{at_next}
 use Rattle.aw_term.specs.WellFormed.{Each}
 use Rattle.aw_grammar.specs.declared.rule.Sort.{Sort}
 use Rattle.aw_grammar.specs.declared.rule.Rule.{Rule}
 use Rattle.aw_grammar.specs.GrammarOf.{entry}
 use Rattle.aw_grammar.specs.Declarations.{Entry}
 use Rattle.aw_grammar.specs.Written.{WrittenChild}
-use Rattle.aw_face.proofs.RuleSteps.{at_next, past_end}
+use Rattle.aw_face.proofs.RuleSteps.{past_end}
 use Rattle.aw_spec.specs.Lines.{Line, RuleLine}
 use Rattle.aw_spec_writer.specs.LineTexts.{child_text, children_behind, text_of_lines}
 use Rattle.aw_spec_writer.specs.SpecLines.{named_rule}

@@ -52,7 +52,7 @@ none_after : (b : ℕ) (o : Option (List ℕ × List ℕ)) → is_name_byte b �
 none_after b None h = tt
 none_after b (Some halves) h = ap (λ t. t && list_all is_name_byte halves.0) h
 
-and_false : (t : Bool) → (t && false) ≡ false
+pub and_false : (t : Bool) → (t && false) ≡ false
 and_false true = refl
 and_false false = refl
 

@@ -7,6 +7,7 @@ use Rattle.std.specs.List.Sorted.{IsPermutation}
 use Rattle.std.proofs.lemmas.List.Sorted.{sum_by-IsPermutation}
 use Rattle.std.proofs.lemmas.Bool.{eqb-true, eq-eqb}
 use Rattle.std.proofs.lemmas.Bool.Decides.{eqb_tells}
+use Rattle.aw_list.proofs.Everyday.{and_true}
 use Rattle.aw_work.specs.declared.block.Triple.{Triple}
 use Rattle.aw_work.specs.Triples.{triple, waiting_at, others_than}
 use Rattle.aw_standing.specs.declared.record.Stands.{Stands}
@@ -97,10 +98,6 @@ MarkWaits ms slot rule = (j : ℕ) × (slice_get ms j ≡ Some (record { rule = 
 -- and it is one of the node with this number
 abbrev pub NodeWaits : List ℕ → List Record → ℕ → ℕ → ℕ → Type 0
 NodeWaits ns xs slot n rule = (i : ℕ) × (x : Record) × (slice_get ns i ≡ Some n) × (slice_get xs n ≡ Some x) × MarkWaits x.marks.items slot rule
-
-and_true : (a b : Bool) → (a && b) ≡ true → (a ≡ true) × (b ≡ true)
-and_true true b e = (refl, e)
-and_true false b e = absurd cc
 
 module _ (slot n rule : ℕ) where
   found : (k : ℕ) (m : Mark) (ms : List Mark) (s : Stands) (b : Bool) → m.stands ≡ s →

@@ -1,6 +1,7 @@
 -- What is kept stays so where names come, and where equations come but for the rules that wait for their left sides.
 use Rattle.std.proofs.Common.{◌≡◌, ℕ, ◌<◌, ◌≤◌, Bool, true, false, cond, List, length, map, Option, Some, None, slice_get, refl, sym, ap, ◌∙◌, arith, length-append}
 use Rattle.std.proofs.lemmas.Bool.{ltb-true, lt-ltb}
+use Rattle.aw_list.proofs.Everyday.{get_within as name_at}
 use Rattle.aw_term.specs.Names.{Node, Ref}
 use Rattle.aw_term.specs.Rules.{Rule, Grammar}
 use Rattle.aw_term.specs.Matching.{Matched, Yes, Waits, Differs, Circle}
@@ -9,7 +10,6 @@ use Rattle.aw_term.specs.Runs.{refusal_of}
 use Rattle.aw_store.specs.Equations.{Map}
 use Rattle.aw_store.specs.NamedRefs.{is_named, Grows}
 use Rattle.aw_store.proofs.SlotLemmas.{slot-grown, AreNamed-grown}
-use Rattle.aw_store.proofs.ChaseLemmas.{name_at}
 use Rattle.aw_apply.specs.Guard.{guard_all}
 use Rattle.aw_apply.specs.Named.{as_named}
 use Rattle.aw_law_sites.specs.Laws.{IsSubmap}

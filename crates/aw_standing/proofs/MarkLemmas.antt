@@ -7,6 +7,7 @@ use Rattle.std.proofs.Common.{Bor}
 use Rattle.std.specs.Option.{option_copied}
 use Rattle.std.proofs.lemmas.List.{length-map}
 use Rattle.std.proofs.lemmas.Bool.{eqb-true}
+use Rattle.aw_list.proofs.Everyday.{from_here}
 use Rattle.aw_term.specs.Names.{Node, Ref}
 use Rattle.aw_term.specs.Rules.{Rule, Grammar, sort_of}
 use Rattle.aw_term.specs.WellFormed.{takes_of}
@@ -58,11 +59,6 @@ untested_live n (k ∷ ms) all zero m e =
     let here : k.stands ≡ stands.TooDeep = all 0 k (omega arith) in
     subst (λ (z : Mark). has_live n z.stands ≡ true) same (ap (has_live n) here)
 untested_live n (k ∷ ms) all (suc j) m e = untested_live n ms (λ i d l. all (suc i) d (omega (arith, l))) j m e
-
-from_here : {A : Type 0} (xs : List A) (n : ℕ) (x : A) → slice_get xs n ≡ Some x → drop n xs ≡ x ∷ drop (suc n) xs
-from_here [] n x e = absurd cc
-from_here (y ∷ ys) zero x e = let same : y ≡ x = cc in ap (λ z. z ∷ ys) same
-from_here (y ∷ ys) (suc n) x e = from_here ys n x e
 
 none_here : {A : Type 0} (xs : List A) (n : ℕ) → slice_get xs n ≡ None → (drop n xs ≡ []) × (drop (suc n) xs ≡ [])
 none_here [] zero e = (refl, refl)

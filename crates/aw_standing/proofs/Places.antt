@@ -1,22 +1,13 @@
 -- Lists by their places.
 use Rattle.std.proofs.Common.{◌≡◌, ◌≢◌, ℕ, zero, suc, ◌<◌, ◌⊎◌, inl, inr, List, [], ◌∷◌, ◌++◌, length, Some, slice_get, refl, ap, arith}
 use Rattle.std.specs.Prelude.{slice_set, insert}
+use Rattle.aw_list.proofs.Everyday.{set-here, length-slice_set as set-length}
 
 -- one place has this now, and each other has what it had
 pub record IsSetAt {A : Type 0} (old new : List A) (n : ℕ) (x : A) : Type 0 where
   pub length : length new ≡ length old
   pub here : slice_get new n ≡ Some x
   pub others : (m : ℕ) → m ≢ n → slice_get new m ≡ slice_get old m
-
-set-length : {A : Type 0} (xs : List A) (n : ℕ) (x : A) → length (slice_set xs n x) ≡ length xs
-set-length [] n x = refl
-set-length (y ∷ ys) zero x = refl
-set-length (y ∷ ys) (suc n) x = ap suc (set-length ys n x)
-
-set-here : {A : Type 0} (xs : List A) (n : ℕ) (x : A) → n < length xs → slice_get (slice_set xs n x) n ≡ Some x
-set-here [] n x l = absurd (omega (arith, l))
-set-here (y ∷ ys) zero x l = refl
-set-here (y ∷ ys) (suc n) x l = set-here ys n x (omega (arith, l))
 
 set-others : {A : Type 0} (xs : List A) (n : ℕ) (x : A) (m : ℕ) → m ≢ n → slice_get (slice_set xs n x) m ≡ slice_get xs m
 set-others [] n x m d = refl

@@ -1,7 +1,8 @@
 -- Following equations from slot to slot.
-use Rattle.std.proofs.Common.{◌≡◌, ℕ, zero, suc, ◌+◌, ◌-◌, ◌<◌, List, [], ◌∷◌, length, Option, Some, None, refl, ap, sym, ◌∙◌, subst, arith}
+use Rattle.std.proofs.Common.{◌≡◌, ℕ, zero, suc, ◌+◌, ◌-◌, ◌<◌, List, length, Option, Some, None, refl, ap, sym, ◌∙◌, subst, arith}
 use Rattle.std.specs.Prelude.{slice_get}
 use Rattle.std.proofs.lemmas.Option.{same_Some}
+use Rattle.aw_list.proofs.Everyday.{get_within as name_at}
 use Rattle.aw_term.specs.Trees.{Head}
 use Rattle.aw_term.specs.Names.{Ref}
 use Rattle.aw_store.specs.Equations.{Body, Same, Is, Map, find}
@@ -9,12 +10,6 @@ use Rattle.aw_store.specs.Chase.{Found, Missing, Round, chase_on, chase_in, chas
 use Rattle.aw_store.specs.ChaseView.{IsChasedTo, IsLookAt}
 use Rattle.aw_store.specs.declared.facts.Chase.TheVariants as answer
 use Rattle.aw_store.specs.declared.follow.Look.TheVariants as look
-
--- what a slot within the list names
-pub name_at : {A : Type 0} (xs : List A) (i : ℕ) → i < length xs → (x : A) × (slice_get xs i ≡ Some x)
-name_at [] i l = absurd (omega (arith, l))
-name_at (x ∷ xs) zero l = (x, refl)
-name_at (x ∷ xs) (suc i) l = name_at xs i (omega (arith, l))
 
 -- what a look has seen
 seen_missing : (names : List Ref) (b : Option Body) → IsLookAt names b look.Missing → b ≡ None

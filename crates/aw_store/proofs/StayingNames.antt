@@ -1,8 +1,9 @@
 -- Names that stay where only what is named is named again.
-use Rattle.std.proofs.Common.{◌≡◌, ℕ, zero, suc, ◌<◌, Bool, true, false, List, [], ◌∷◌, ◌++◌, length, Some, refl, ap, arith, sym, subst, ◌∙◌, inl, inr}
-use Rattle.std.specs.Prelude.{slice_get, ◌⊎◌, ◌||◌}
+use Rattle.std.proofs.Common.{◌≡◌, ℕ, zero, suc, ◌<◌, true, List, [], ◌∷◌, ◌++◌, length, Some, refl, ap, arith, sym, subst, ◌∙◌, inl, inr}
+use Rattle.std.specs.Prelude.{slice_get, ◌⊎◌}
 use Rattle.std.proofs.lemmas.Bool.{and_parts, or_cases}
 use Rattle.std.proofs.lemmas.List.{append-nil}
+use Rattle.aw_list.proofs.Everyday.{or_left as or_first, or_right as or_later}
 use Rattle.aw_term.specs.Names.{Ref}
 use Rattle.aw_term.proofs.RefTests.{ref_eq-true}
 use Rattle.aw_store.specs.Refs.{ref_eq}
@@ -36,14 +37,6 @@ names_stay ns ms rs among (more, e) only once = e ∙ no_more ns more rs among (
 
 pub among_named : (ns rs : List Ref) → all_named ns rs ≡ true → (r : Ref) → is_named rs r ≡ true → is_named ns r ≡ true
 among_named ns rs h r b = let (k, l, f) = place rs r b in named_part ns rs k r h f
-
-or_first : (a b : Bool) → a ≡ true → (a || b) ≡ true
-or_first true b e = refl
-or_first false b e = absurd cc
-
-or_later : (a b : Bool) → b ≡ true → (a || b) ≡ true
-or_later true b e = refl
-or_later false b e = e
 
 split : (xs ys : List Ref) (r : Ref) → is_named (xs ++ ys) r ≡ true → (is_named xs r ≡ true) ⊎ (is_named ys r ≡ true)
 split [] ys r e = inr e

@@ -100,11 +100,6 @@ bit_beside bits k i within = cases (nat_eq k i) refl
 pub bit_alone : (k i : ℕ) → k < 64 → has_bit (1 * 2 ^ k % 2 ^ 64) i ≡ (nat_eq k i || has_bit 0 i)
 bit_alone k i within = ap (λ x. has_bit x i) (sym (or_zero_l (1 * 2 ^ k % 2 ^ 64))) ∙ bit_beside 0 k i within
 
--- what follows from success, and what follows either way
-pub on_ok : {A E : Type 0} {P R : Type 0} (r : Result A E) → OnOk r P → (P → R) → OnOk r R
-on_ok (Ok a) p f = f p
-on_ok (Err e) p f = p
-
 pub either_way : {A E : Type 0} {P Q R : Type 0} (r : Result A E) → OnOk r P → OnErr r Q → (P → R) → (Q → R) → R
 either_way (Ok a) p q f g = f p
 either_way (Err e) p q f g = g q

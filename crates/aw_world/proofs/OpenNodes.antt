@@ -1,5 +1,6 @@
 -- Open nodes in order, of what is held in order.
-use Rattle.std.proofs.Common.{◌≡◌, ℕ, zero, suc, ◌+◌, Bool, true, false, cond, List, [], ◌∷◌, ◌++◌, drop, ap, sym, ◌∙◌, refl, subst, Option, Some, None, slice_get, append_assoc, arith}
+use Rattle.std.proofs.Common.{◌≡◌, ℕ, zero, suc, ◌+◌, Bool, true, false, cond, List, [], ◌∷◌, ◌++◌, drop, ap, sym, ◌∙◌, refl, subst, Option, Some, None, slice_get, append_assoc}
+use Rattle.aw_list.proofs.Everyday.{at_next as get_drop}
 use Rattle.aw_term.specs.Names.{Node, node_lt}
 use Rattle.aw_term.specs.ByNode.{insert_by}
 use Rattle.aw_term.specs.Configs.{State, Pending, Done}
@@ -172,11 +173,6 @@ opens_ordered g (h ∷ hs) up =
 open_more : (s : State) (n : Node) (ns : List Node) → open_on s n [] ++ ns ≡ open_on s n ns
 open_more Pending n ns = refl
 open_more (Done r args) n ns = refl
-
-get_drop : {W : Type 0} (ws : List W) (i : ℕ) (w : W) → slice_get ws i ≡ Some w → drop i ws ≡ w ∷ drop (i + 1) ws
-get_drop [] i w e = absurd cc
-get_drop (x ∷ ws) zero w e = let same : x ≡ w = cc in ap (λ y. y ∷ ws) same
-get_drop (x ∷ ws) (suc i) w e = let z : suc i + 1 ≡ suc (i + 1) = omega arith in get_drop ws i w e ∙ ap (λ j. w ∷ drop j (x ∷ ws)) (sym z)
 
 pub opened : (g : Grammar) (hs : List Held) (i : ℕ) (h : Held) (old new whole : List Node) → slice_get hs i ≡ Some h → new ≡ old ++ open_on (state_of h.done) h.node []
     → old ++ open_nodes (all_of g (drop i hs)) ≡ whole → new ++ open_nodes (all_of g (drop (i + 1) hs)) ≡ whole

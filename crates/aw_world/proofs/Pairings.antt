@@ -2,21 +2,13 @@
 use Rattle.std.proofs.Common.{◌≡◌, ℕ, zero, suc, ◌<◌, List, [], ◌∷◌, length, get_or, map, ap, sym, ◌∙◌, refl, inl, inr}
 use Rattle.std.specs.Prelude.{slice_set, slice_get, Some, ◌⊎◌}
 use Rattle.std.proofs.lemmas.Option.{same_Some, slice_get_read}
+use Rattle.aw_list.proofs.Everyday.{length-slice_set as length_set}
 use Rattle.aw_term.specs.Rules.{get}
-use Rattle.aw_accept.specs.Acyclic.{Pairs}
 use Rattle.aw_grammar.specs.declared.grammar.Grammar.{Grammar}
 use Rattle.aw_grammar.specs.GrammarOf.{grammar_of}
 use Rattle.aw_world.specs.declared.workspace.Workspace.{Ghosts}
 use Rattle.aw_term.specs.SameGrammar.{same_grammar}
-use Rattle.aw_law_worlds.proofs.Places.{length-set as length_set}
 use Rattle.aw_world.specs.Seen.{ArePlaced}
-
--- lists whose members belong together are as long
-pub pairs_length : {A B : Type 0} (R : A → B → Type 0) (xs : List A) (ys : List B) → Pairs R xs ys → length xs ≡ length ys
-pairs_length R [] [] p = refl
-pairs_length R [] (b ∷ ys) p = elim p [ ]
-pairs_length R (a ∷ xs) [] p = elim p [ ]
-pairs_length R (a ∷ xs) (b ∷ ys) p = ap suc (pairs_length R xs ys p.1)
 
 pub set_same : {B : Type 0} (d : B) (ys : List B) (i : ℕ) → slice_set ys i (get d ys i) ≡ ys
 set_same d [] i = refl

@@ -13,12 +13,12 @@ use Rattle.aw_out.specs.declared.error.PrintFault.{PrintFault}
 use Rattle.aw_out.specs.Report.{Bounded, Prints}
 use Rattle.aw_law_sites.specs.Worlds as V
 use Rattle.aw_law_sites.specs.Worlds.{world_after, gather}
+use Rattle.aw_law_sites.proofs.SideBySide.{Pairs-length as pairs_length}
 use Rattle.aw_law_worlds.proofs.WorldLaws.{artifacts_law, headline}
 use Rattle.aw_world.specs.declared.workspace.Workspace.{Ghosts}
 use Rattle.aw_world.specs.declared.world.World.{World}
 use Rattle.aw_world.specs.Reactions.{PrintsRows, PrintsArtifacts}
 use Rattle.aw_world.specs.Shown.{Shows, first_open}
-use Rattle.aw_world.proofs.Pairings.{pairs_length}
 use Rattle.aw_world.proofs.PrintProps.{prints_prop}
 
 -- the same choices in the same order

@@ -5,6 +5,7 @@ use Rattle.aw_node_list.specs.declared.held.Held.{Held}
 use Rattle.aw_node_list.proofs.InOrderLemmas.{Up}
 use Rattle.aw_world.specs.declared.workspace.Workspace.{Ghosts}
 use Rattle.std.proofs.lemmas.Option.{get_or_from_slice_get}
+use Rattle.aw_list.proofs.Everyday.{some_of}
 use Rattle.aw_world.specs.declared.merging.Spot.{Spot}
 use Rattle.aw_world.specs.Merged.{merged, nodes_of, left_of, held_at, PassesOn}
 use Rattle.aw_world.specs.Firsts.{next_of, IsFirst, IsFirstOf}
@@ -81,10 +82,6 @@ module _ {W : Type 0} (f : Ghosts W) where
       none : (j : ℕ) (o : Option Held) → next_of f ws ps j ≡ o → j < length ws → head_of (left_of f ws ps) j ≡ None
       none j None a m = next_head ws ps j l ∙ a
       none j (Some k) a m = let (g, i, z) = first j k m a in absurd cc
-
-some_of : {A : Type 0} (o : Option A) → IsSome o → (x : A) × (o ≡ Some x)
-some_of None h = absurd cc
-some_of (Some x) h = (x, refl)
 
 -- where the next node of a workspace stands
 pub record Stands {W : Type 0} (f : Ghosts W) (ws : List W) (ps : List ℕ) (b : ℕ) : Type 0 where

@@ -1,12 +1,12 @@
 -- Slots that name references are slots of the store.
 use Rattle.std.proofs.Common.{◌≡◌, ℕ, ◌<◌, List, length, Option, Some, IfSome, slice_get, sym, subst, arith}
 use Rattle.std.proofs.lemmas.Option.{slice_get_within}
+use Rattle.aw_list.proofs.Everyday.{get_within as name_at}
 use Rattle.aw_term.specs.Names.{Ref}
 use Rattle.aw_store.specs.Equations.{Map}
 use Rattle.aw_store.specs.Chase.{Chased, Found, Missing, Round, chase}
 use Rattle.aw_store.specs.ChaseView.{IsChasedTo}
 use Rattle.aw_store.specs.declared.facts.Chase.TheVariants as answer
-use Rattle.aw_store.proofs.ChaseLemmas.{name_at}
 use Rattle.aw_store.specs.NamedRefs.{AreNamed}
 use Rattle.aw_apply.proofs.GuardLemmas.{chased_missing}
 

@@ -2,6 +2,7 @@ use Rattle.std.proofs.Common.{◌≡◌, ◌+◌, ◌<◌, [], length, map, refl
 use Rattle.std.proofs.lemmas.Bool.{leb-true}
 use Rattle.std.proofs.lemmas.List.{length-map}
 use Rattle.std.proofs.lemmas.Option.{slice_get_within}
+use Rattle.aw_list.proofs.Everyday.{get_within as name_at}
 use Rattle.aw_term.specs.Trees.{Con, join}
 use Rattle.aw_term.specs.Matching.{Yes, and_then}
 use Rattle.aw_term.specs.WellFormed.{symbols, nesting, leaves}
@@ -11,7 +12,6 @@ use Rattle.aw_term.specs.Limits.{most_parts}
 use Rattle.aw_choice.specs.ChoiceView.{path_of}
 use Rattle.aw_store.specs.NamedRefs.{con_parts, parts_at}
 use Rattle.aw_store.specs.Chase.{chase}
-use Rattle.aw_store.proofs.ChaseLemmas.{name_at}
 use Rattle.aw_store.proofs.StoreLemmas.{found_small}
 use Rattle.aw_apply.specs.Guard.{guard_end, guard, guard_parts}
 use Rattle.aw_apply.specs.Named.{names_at, as_named, behind}

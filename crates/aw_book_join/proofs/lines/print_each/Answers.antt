@@ -1,10 +1,10 @@
 use Rattle.std.proofs.Common.{◌≡◌, ℕ, ◌+◌, List, [], ◌++◌, length, drop, refl, sym, ap, ◌∙◌, append_assoc, append-nil, arith, rules}
 use Rattle.std.specs.List.{concat}
 use Rattle.std.proofs.lemmas.List.{length-map}
-use Rattle.aw_store.proofs.ChaseLemmas.{name_at as some-at}
+use Rattle.aw_list.proofs.Everyday.{get_within as some-at}
+use Rattle.aw_law_sites.proofs.SideBySide.{Pairs-length as pairs_length}
 use Rattle.aw_node_list.specs.HeldView.{held_of}
 use Rattle.aw_world.proofs.Lines.{drop_all}
-use Rattle.aw_world.proofs.Pairings.{pairs_length}
 use Rattle.aw_book_join.specs.Lines.{IsTold, TellsTask}
 use Rattle.aw_book_join.proofs.Handing.{hands-as, hands-more}
 use Rattle.aw_book_join.proofs.Results.{hands-stop, tells-passed}

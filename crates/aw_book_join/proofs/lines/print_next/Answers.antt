@@ -1,9 +1,9 @@
 use Rattle.std.proofs.Common.{◌≡◌, ℕ, List, ◌++◌, true, false, ap, sym, subst, ◌∙◌, slice_get, length, arith, rules}
 use Rattle.std.proofs.lemmas.List.{length-map}
+use Rattle.aw_list.proofs.Everyday.{get_within as some-at}
 use Rattle.aw_node_list.specs.HeldView.{held_of}
 use Rattle.aw_out.specs.Report.{Bounded}
 use Rattle.aw_term.specs.Held.{Held}
-use Rattle.aw_store.proofs.ChaseLemmas.{name_at as some-at}
 use Rattle.aw_book_join.specs.Handing.{Hands}
 use Rattle.aw_book_join.specs.Lines.{TellsTask}
 use Rattle.aw_book_join.specs.Views.{is_asked}

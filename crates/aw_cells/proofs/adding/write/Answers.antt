@@ -3,10 +3,11 @@ use Rattle.std.specs.Prelude.{option_and_then}
 use Rattle.std.specs.List.{slice_set}
 use Rattle.slab.specs.Slab.{with_value}
 use Rattle.slab.proofs.SlabLemmas.{Updates-with_value}
+use Rattle.aw_list.proofs.Everyday.{set-here as slice_get-written}
 use Rattle.aw_cells.specs.Cells.{map_in}
 use Rattle.aw_cells.specs.StoredBodies.{body_from}
 use Rattle.aw_cells.specs.TableView.{cells_of}
-use Rattle.aw_cells.proofs.MapLemmas.{map-push, map-apart, slice_get-written}
+use Rattle.aw_cells.proofs.MapLemmas.{map-push, map-apart}
 use Rattle.aw_cells.proofs.RowLemmas.{row-set, dense-set}
 use Rattle.aw_cells.proofs.SoundLemmas.{order-room, sound-written, sound-same}
 use Rattle.aw_cells.proofs.adding.write.Goals as goal

@@ -1,13 +1,9 @@
-use Rattle.std.specs.Prelude.{◌≡◌, ℕ, ◌+◌, ◌-◌, ◌≤◌, List, ◌++◌, take, drop, length, Result, Ok, Err, OnOk, if◌then◌else◌}
-use Rattle.std.specs.Result.{is_ok}
-use Rattle.std.proofs.Common.{sym, ◌∙◌, ap, subst, arith, length-append, length-drop}
+use Rattle.std.specs.Prelude.{◌≡◌, ℕ, ◌+◌, ◌-◌, ◌≤◌, List, ◌++◌, take, drop, length}
+use Rattle.std.proofs.Common.{◌∙◌, ap, arith, length-append, length-drop}
 use Rattle.std.proofs.lemmas.List.{length-take-le}
+use Rattle.aw_list.proofs.Everyday.{extended}
 use Rattle.aw_journal.proofs.Reading.{piece_held, taken_more}
 use Rattle.aw_journal.proofs.pieces.take_held.Goals as goal
-
-extended : {T E : Type 0} (r : Result T E) (now more same : List ℕ) (Q : List ℕ → Type 0) → now ≡ (if is_ok r then more else same) → Q more → OnOk r (Q now)
-extended (Ok x) now more same Q is q = subst Q (sym is) q
-extended (Err e) now more same Q is q = tt
 
 pub returns-clause-same : goal.returns-clause-same
 returns-clause-same c file same is =

@@ -1,10 +1,10 @@
 use Rattle.std.proofs.Common.{◌≡◌, ◌∙◌, ap, sym, subst, length, slice_get}
 use Rattle.std.proofs.lemmas.Bool.{lt-ltb}
 use Rattle.std.proofs.lemmas.Option.{slice_get_within}
+use Rattle.aw_list.proofs.Everyday.{get_within as name_at}
 use Rattle.aw_grammar.specs.GrammarOf.{grammar_of}
 use Rattle.aw_store.specs.Chase.{chase}
 use Rattle.aw_store.specs.ChaseView.{IsChasedTo}
-use Rattle.aw_store.proofs.ChaseLemmas.{name_at}
 use Rattle.aw_apply.proofs.GuardLemmas.{chased_missing as led_to}
 use Rattle.aw_standing.specs.Due.{waiting_mark}
 use Rattle.aw_standing.proofs.WaitEnds.{led_lacks, led_nowhere, led_told}

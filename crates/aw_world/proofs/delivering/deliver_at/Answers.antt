@@ -1,10 +1,10 @@
 use Rattle.std.proofs.Common.{◌≡◌, ◌≤◌, Some, true, length, ap, sym, ◌∙◌, subst, arith}
 use Rattle.std.specs.Prelude.{slice_get, option_map, if◌then◌else◌}
 use Rattle.std.proofs.lemmas.Option.{slice_get-map}
+use Rattle.aw_list.proofs.Everyday.{length-slice_set as length_set}
 use Rattle.aw_grammar.specs.GrammarOf.{grammar_of}
 use Rattle.aw_law_sites.specs.Worlds as V
 use Rattle.aw_law_sites.specs.Reacting.{receive}
-use Rattle.aw_law_worlds.proofs.Places.{length-set as length_set}
 use Rattle.aw_world.specs.declared.moves.Reply.TheVariants as replies
 use Rattle.aw_msg.specs.MessageView.{message_of}
 use Rattle.aw_world.specs.Seen.{Steps, world_of}

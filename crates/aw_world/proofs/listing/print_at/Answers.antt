@@ -1,8 +1,9 @@
 use Rattle.std.proofs.Common.{◌<◌, false, arith, length, refl, subst, sym}
 use Rattle.std.proofs.lemmas.Option.{slice_get_read}
 use Rattle.aw_law_sites.specs.Sites.{Site, empty_site}
+use Rattle.aw_law_sites.proofs.SideBySide.{Pairs-length as pairs_length}
 use Rattle.aw_world.specs.PrintedRows.{PrintsRow}
-use Rattle.aw_world.proofs.Pairings.{map_at, pairs_length}
+use Rattle.aw_world.proofs.Pairings.{map_at}
 use Rattle.aw_world.proofs.Printers.{pairs_got, pairs_renewed, place_within, keep_on}
 use Rattle.aw_world.proofs.RowsAt.{stood_within}
 use Rattle.aw_world.proofs.listing.print_at.Goals as goal

@@ -4,9 +4,9 @@ use Rattle.aw_grammar.specs.GrammarOf.{words_of}
 use Rattle.aw_out.specs.Report.{Prints}
 use Rattle.aw_out.proofs.Printing.{Prints-nothing}
 use Rattle.aw_term.specs.Artifacts.{artifact_text, row_text}
+use Rattle.aw_law_sites.proofs.SideBySide.{Pairs-length as pairs_length}
 use Rattle.aw_world.specs.Merged.{merged, nodes_of, held_at}
 use Rattle.aw_world.proofs.Lines.{stops, goes_on, told_here, drop_all}
-use Rattle.aw_world.proofs.Pairings.{pairs_length}
 use Rattle.aw_world.proofs.RowsAt.{row_at, order_length, there}
 use Rattle.aw_world.proofs.listing.print_each.Goals as goal
 

@@ -1,6 +1,7 @@
 use Rattle.std.proofs.Common.{ap}
+use Rattle.aw_list.proofs.Everyday.{on_ok}
 use Rattle.aw_subs.specs.Entries.{asked_in, watchers_in, entry_of}
-use Rattle.aw_subs.proofs.EntryLemmas.{kept_written, ready_self, either_way, on_ok, or_asked, or_watchers}
+use Rattle.aw_subs.proofs.EntryLemmas.{kept_written, ready_self, either_way, or_asked, or_watchers}
 use Rattle.aw_subs.proofs.subs.Subs.ready_one.Goals as goal
 
 pub returns-clause-asked : goal.returns-clause-asked
