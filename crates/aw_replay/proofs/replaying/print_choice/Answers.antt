@@ -4,7 +4,7 @@ use Rattle.aw_law_sites.specs.Worlds as V
 use Rattle.aw_choice.specs.ChoiceView.{choice_of}
 use Rattle.aw_choice.specs.Events as E
 use Rattle.aw_world.specs.Shown.{Shows}
-use Rattle.aw_world.proofs.Pairings.{on_err}
+use Rattle.aw_list.proofs.Fronts.{on_err_held as on_err}
 use Rattle.aw_law_sites.specs.Outputs.{moves_of}
 use Rattle.aw_replay.proofs.Events.{all_taken}
 use Rattle.aw_law_worlds.proofs.Headlining.{event_runs}

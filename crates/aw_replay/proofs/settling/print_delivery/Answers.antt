@@ -1,5 +1,5 @@
 use Rattle.aw_law_sites.specs.Worlds as V
-use Rattle.aw_world.proofs.Pairings.{on_err}
+use Rattle.aw_list.proofs.Fronts.{on_err_held as on_err}
 use Rattle.std.proofs.Common.{inr}
 use Rattle.aw_replay.specs.Telling.{StepsOrNot}
 use Rattle.aw_replay.proofs.settling.print_delivery.Goals as goal

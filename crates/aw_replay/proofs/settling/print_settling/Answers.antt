@@ -13,7 +13,7 @@ use Rattle.aw_out.specs.Report.{Prints}
 use Rattle.aw_out.proofs.Printing.{Prints-second}
 use Rattle.aw_world.specs.Shown.{Shows}
 use Rattle.aw_world.proofs.Lines.{stops}
-use Rattle.aw_world.proofs.Pairings.{on_err}
+use Rattle.aw_list.proofs.Fronts.{on_err_held as on_err}
 use Rattle.aw_law_worlds.proofs.Settling.{settle_more, settle_taken}
 use Rattle.aw_world.proofs.Settles.{room_left, fewer_left, one_more, settled_on, settled_whole, bounded}
 use Rattle.aw_replay.specs.Telling.{SettlesSome, DoesSome}
