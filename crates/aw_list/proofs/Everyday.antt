@@ -1,6 +1,6 @@
 -- Lemmas on truth values, options, lists and numbers that std does not have.
 use Rattle.std.proofs.Common.{arith, refl, [], Some, ◌≡◌, List, zero, ◌∷◌, suc, ◌<◌, ℕ, slice_get, length, None, Option, ap, ◌++◌, Bool, true, sym, false, drop, ◌∙◌, ◌+◌, subst, map}
-use Rattle.std.specs.Prelude.{slice_set, IsSome, ◌&&◌, ◌||◌, Ok, Result, OnOk, Err, not}
+use Rattle.std.specs.Prelude.{slice_set, IsSome, ◌&&◌, ◌||◌, Ok, Result, OnOk, Err, not, if◌then◌else◌}
 use Rattle.std.proofs.lemmas.List.{drop_more}
 use Rattle.std.proofs.lemmas.Option.{slice_get_within, get_or_from_slice_get}
 use Rattle.std.specs.Result.{is_ok}
