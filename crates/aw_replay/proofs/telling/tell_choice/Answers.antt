@@ -1,4 +1,4 @@
-use Rattle.std.proofs.Common.{◌++◌, length, map, ap, sym, subst, ◌∙◌}
+use Rattle.std.proofs.Common.{◌++◌, length, map, ap, sym, subst, ◌∙◌, inr}
 use Rattle.std.proofs.lemmas.Result.{on_ok_weaker}
 use Rattle.std.proofs.lemmas.List.{length-map}
 use Rattle.aw_list.proofs.Fronts.{on_err_held as on_err}
