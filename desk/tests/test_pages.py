@@ -21,8 +21,8 @@ Make = Callable[[str], Company]
 
 
 def settled(company: Company) -> None:
-    """Waits until every letter has come."""
-    until(lambda: not company.system.unsettled(), "the letters did not come: %s" % company.system.log()[-1000:])
+    """Waits until every letter has come: answers change no worklist."""
+    until(lambda: not company.system.unsettled() and company.system.carried(), "the letters did not come: %s" % company.system.log()[-1000:])
 
 
 def good(browser: Browser) -> str:
