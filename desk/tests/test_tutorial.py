@@ -76,7 +76,7 @@ def test_the_claim_by_clicks(chapter: str, typed: Path, screen: Screen) -> None:
     screen.enter(**{"Number of the case": "501"})
     screen.click("Begin claim")
     screen.click("Open claim")
-    screen.enter(Policy="88012", What="storm, roof", Asked="12000", Number="DK50 0040")
+    screen.enter(Policy="88012", What="storm, roof", Asked="12000", Iban="DK50 0040")
     screen.picture("desk-form")
     screen.click("Go on")
     screen.picture("desk-send")
