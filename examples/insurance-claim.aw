@@ -45,7 +45,7 @@ use front payment
 % The customer's form. The verdict v is the result of the first subtask, and
 % is handed to the second: results may go sideways, as long as nothing needs
 % itself. Both end in the letter.
-rule open_claim {policy, what, asked, iban} : claim()<letter(v, p)> = assessment(damage(policy, what, asked))<v> ; payment(account(iban), v)<p>
+rule open_claim {policy, what, asked, number} : claim()<letter(v, p)> = assessment(damage(policy, what, asked))<v> ; payment(account(number), v)<p>
 
 % Small claims: the assessor grants an amount without a survey.
 rule grant {amount} : assessment(damage(policy, what, asked))<granted(amount)>
@@ -68,8 +68,8 @@ rule pay_repair : decision(asked, repairable(cost))<granted(cost)>
 rule pay_all : decision(asked, destroyed)<granted(asked)>
 
 % Payments acts on the verdict. Until it has arrived both rules wait.
-rule pay : payment(account(iban), granted(amount))<paid(iban, amount)>
-rule file_away : payment(account(iban), denied(why))<unpaid>
+rule pay : payment(account(number), granted(amount))<paid(number, amount)>
+rule file_away : payment(account(number), denied(why))<unpaid>
 
 schedule
 % A large claim.

@@ -20,7 +20,7 @@ offer assessment
 offer payment
 use front assessment
 use front payment
-rule open_claim {policy, what, asked, iban} : claim()<letter(v, p)> = assessment(damage(policy, what, asked))<v> ; payment(account(iban), v)<p>
+rule open_claim {policy, what, asked, number} : claim()<letter(v, p)> = assessment(damage(policy, what, asked))<v> ; payment(account(number), v)<p>
 rule grant {amount} : assessment(damage(policy, what, asked))<granted(amount)>
 rule deny {why} : assessment(x)<denied(why)>
 rule inspect : assessment(damage(policy, what, asked))<v> = survey(what)<found> ; decision(asked, found)<v>
@@ -28,8 +28,8 @@ rule find_repairable {cost} : survey(what)<repairable(cost)>
 rule find_destroyed : survey(what)<destroyed>
 rule pay_repair : decision(asked, repairable(cost))<granted(cost)>
 rule pay_all : decision(asked, destroyed)<granted(asked)>
-rule pay : payment(account(iban), granted(amount))<paid(iban, amount)>
-rule file_away : payment(account(iban), denied(why))<unpaid>
+rule pay : payment(account(number), granted(amount))<paid(number, amount)>
+rule file_away : payment(account(number), denied(why))<unpaid>
 schedule
 start claim 501
 choose claim#501 open_claim {88012, "storm, roof", 12000, "DK50 0040"}
