@@ -7,6 +7,8 @@ import re
 import urllib.parse
 from dataclasses import dataclass, field
 
+from systems import LONG
+
 VOID = {"meta", "link", "input", "br", "hr", "img"}
 
 
@@ -117,7 +119,7 @@ class Browser:
 
     def ask(self, method: str, url: str, body: bytes | None = None, kind: str = "application/x-www-form-urlencoded", site: str = "cross-site") -> Page:
         """Asks for a page, and follows where it leads. A form says from what kind of page it is sent."""
-        peer = http.client.HTTPConnection("127.0.0.1", self.port, timeout=120)
+        peer = http.client.HTTPConnection("127.0.0.1", self.port, timeout=LONG)
         headers = {"Cookie": "; ".join("%s=%s" % pair for pair in self.cookies.items())} if self.cookies else {}
         if body is not None:
             headers.update({"Content-Type": kind, "Sec-Fetch-Site": site})

@@ -10,7 +10,7 @@ from pathlib import Path
 
 import pytest
 from conftest import CLAIM_TEXT, TOP, TYPED, Company
-from systems import until
+from systems import LONG, until
 
 from aw_clerk.desk import CLOSED, Desk
 from aw_clerk.logins import line_of
@@ -432,7 +432,7 @@ def test_words_that_are_wrong(company: Make, tmp_path: Path) -> None:
     desk, state = str(TOP / "desk" / "aw_desk"), str(tmp_path / "state")
 
     def said(*words: str) -> tuple[int, str]:
-        done = subprocess.run(["/usr/bin/python3", desk, *words], capture_output=True, timeout=60, text=True)
+        done = subprocess.run(["/usr/bin/python3", desk, *words], capture_output=True, timeout=LONG, text=True)
         assert "Traceback" not in done.stderr and done.stderr.count("\n") == 1, done.stderr
         return done.returncode, done.stderr
     spec, journal = str(made.system.spec), made.journal("front")

@@ -9,7 +9,7 @@ from collections.abc import Callable, Iterator
 
 import pytest
 from conftest import TOP, TYPED, Company
-from systems import until
+from systems import LONG, until
 
 from aw_clerk.tasks import tasks_of
 
@@ -22,11 +22,11 @@ class Screen:
     def __init__(self, line: list[str]) -> None:
         assert shutil.which("tmux"), "not run: tmux is missing; `ci/setup desk` installs it"
         self.room = tempfile.TemporaryDirectory()
-        self.tmux("new-session", "-d", "-x", "100", "-y", "40", "env LANG=C.UTF-8 LC_ALL=C.UTF-8 " + shlex.join(line) + "; echo ended $?; sleep 60")
+        self.tmux("new-session", "-d", "-x", "100", "-y", "40", "env LANG=C.UTF-8 LC_ALL=C.UTF-8 " + shlex.join(line) + "; echo ended $?; sleep infinity")
 
     def tmux(self, *words: str) -> str:
         """Does something with the terminal."""
-        return subprocess.run(["tmux", "-S", self.room.name + "/tmux", "-f", "/dev/null", *words], capture_output=True, text=True, timeout=60, check=True).stdout
+        return subprocess.run(["tmux", "-S", self.room.name + "/tmux", "-f", "/dev/null", *words], capture_output=True, text=True, timeout=LONG, check=True).stdout
 
     def shown(self) -> str:
         """What is on the screen."""
@@ -34,7 +34,7 @@ class Screen:
 
     def wait(self, words: str) -> None:
         """Waits until some words are on the screen."""
-        until(lambda: words in self.shown(), "no %r" % words, 60)
+        until(lambda: words in self.shown(), lambda: "no %r in\n%s" % (words, self.shown()))
 
     def type(self, keys: str, then: str) -> None:
         """Types a line, and waits for what comes."""
@@ -44,13 +44,13 @@ class Screen:
 
     def clear(self) -> None:
         """Takes away what is on the screen, when the list asks for something, so that what comes is new."""
-        until(lambda: self.shown().rstrip().endswith("(h for help):"), "the list asks for nothing", 60)
+        until(lambda: self.shown().rstrip().endswith("(h for help):"), "the list asks for nothing")
         self.tmux("send-keys", "C-l")
-        until(lambda: self.shown().count("\n") - self.shown().rstrip("\n").count("\n") > 30, "the screen is not cleared", 60)
+        until(lambda: self.shown().count("\n") - self.shown().rstrip("\n").count("\n") > 30, "the screen is not cleared")
 
     def end(self) -> None:
         """Ends the terminal."""
-        subprocess.run(["tmux", "-S", self.room.name + "/tmux", "kill-server"], capture_output=True, timeout=60)
+        subprocess.run(["tmux", "-S", self.room.name + "/tmux", "kill-server"], capture_output=True, timeout=LONG)
         self.room.cleanup()
 
 
