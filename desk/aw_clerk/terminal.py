@@ -1,6 +1,7 @@
 """The command `aw_desk_tty`: the desk in a terminal, by keys alone."""
 from __future__ import annotations
 
+import textwrap
 from collections.abc import Callable, Iterable
 
 from prompt_toolkit import PromptSession
@@ -24,6 +25,7 @@ from .wording import human, moment, titled
 
 NAME = "aw_desk_tty"
 A_SCREEN, MOST_OF_VALUES = 20, 50
+STAYS = "What you entered is there when you choose it again."
 HELP = """
   1, 2 ..  the task with this number: what it was given, and what can be done
   n        begin a case
@@ -120,6 +122,7 @@ class Terminal:
         """Shows a task, and asks what to do."""
         wording = self.desk.wording
         print("\n%s" % titled(wording.task(task.name)))
+        self.help("sort", wording.sort(task.name))
         print("\n".join(trees.lines(wording, trees.lists(wording, task)["given"])))
         rules = [rule for rule in wording.rules(task.name) if not wording.state(task, rule)]
         for rule in wording.rules(task.name):
@@ -138,6 +141,7 @@ class Terminal:
     def do(self, task: Task, rule: RuleLine) -> None:
         """Asks for the fields of a rule, shows them, and sends them. What was typed and not taken is there when the rule is chosen once more."""
         wording = self.desk.wording
+        self.help("rule", rule.name.text)
         form: dict[str, str] = {}
         typed = self.typed.setdefault((task.name, rule.name.text), {})
         while (field := missing(fields_of(wording, rule, form, True), form)) is not None:
@@ -147,12 +151,17 @@ class Terminal:
         print("\n%s: send this?" % titled(rule.name.text))
         print("\n".join(trees.lines(wording, [(rule.params[at].text, value) for at, value in enumerate(entered)])) or "   (nothing is entered)")
         if self.ask("yes or no: ", lambda text: "" if text.strip() in ("yes", "no", "") else "Type yes or no.", ["yes", "no"]).strip() != "yes":
-            print("Nothing was sent.")
+            print("Nothing was sent. " + STAYS)
             raise Back
         said = self.desk.choose(self.clerk, task, rule, entered)
         if said.done:
             del self.typed[task.name, rule.name.text]
-        print(said.words)
+        print("%s %s" % (said.words, STAYS) if said.again else said.words)
+
+    def help(self, form: str, name: str) -> None:
+        """Shows what the specification's author wrote above a line."""
+        for line in textwrap.wrap(self.desk.wording.note(form, name), 76):
+            print("   " + line)
 
     def fill(self, field: Field, form: dict[str, str], typed: dict[str, str]) -> None:
         """Asks what a field is, where that is not known, or what is in it; what was typed before stands there already."""
