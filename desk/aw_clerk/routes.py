@@ -230,7 +230,11 @@ def deciding(app: flask.Flask, pages: Pages) -> None:
 
     @app.get("/begin")
     def begin() -> Answer:
-        sorts = [(sort, titled(sort), pages.typed("/begin/" + sort).get("number") or pages.next_number(sort), desk.wording.note("sort", sort)) for sort in desk.starts()]
+        sorts = []
+        for sort in desk.starts():
+            page = "/begin/" + sort
+            sorts.append((sort, titled(sort), pages.typed(page).get("number") or pages.next_number(sort), desk.wording.note("sort", sort)))
+            pages.entered.forget(pages.token(), page)  # (a number is shown once more, and then the next free one)
         return pages.render("begin.html", sorts=sorts)
 
     @app.post("/begin/<sort>")
