@@ -75,6 +75,14 @@ def tables_of(crate: str) -> list[str]:
     return []
 
 
+def in_short(tables: list[str]) -> str:
+    """Returns some tables, or those that are left out where these are few."""
+    others = [it.removeprefix("table_") for it in uses() if it.startswith("table_") and it != "table_common" and it.removeprefix("table_") not in tables]
+    if len(others) > 2:
+        return ", ".join(tables)
+    return "all but " + ", ".join(others) if others else "all"
+
+
 def lines_in(crate: str, folder: str, ending: str) -> int:
     """Returns how many lines the crate's files with this ending have in this folder."""
     return sum(it.read_bytes().count(b"\n") for it in (CRATES / crate / folder).rglob(f"*{ending}"))
@@ -92,7 +100,7 @@ def row(crate: str) -> str:
     """Returns the line of a crate in its table."""
     by_gate, by_hand = len(planted.edits_of(crate, "must-fail")), len(planted.edits_of(crate))
     bodies = f"{by_gate} + {by_hand}" if by_gate else str(by_hand or "")
-    tables = "itself" if (CRATES / crate / "stdout").is_file() else ", ".join(it.removeprefix("table_") for it in tables_of(crate))
+    tables = "itself" if (CRATES / crate / "stdout").is_file() else in_short([it.removeprefix("table_") for it in tables_of(crate)])
     cells = [crate, purpose(crate), " ".join(stands_on(crate)), bodies, tables]
     return "| " + " | ".join(cells) + " |"
 
