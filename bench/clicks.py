@@ -28,7 +28,7 @@ def browser(profile: str) -> Any:
         from selenium import webdriver
         from selenium.webdriver.chrome.service import Service
     except ImportError:
-        raise Sorry("Python's selenium is missing: `ci/setup desk` installs it; or leave --desks away.") from None
+        raise Sorry("The Python that runs this has no selenium: `ci/setup desk` installs it for /usr/bin/python3, so begin with that one; or leave --desks away.") from None
     if not CHROMIUM.exists() or not DRIVER.exists():
         raise Sorry("Chromium or its driver is missing: `ci/setup desk` installs it; or leave --desks away.")
     options = webdriver.ChromeOptions()

@@ -23,7 +23,7 @@ OWN = re.compile(r"\b(aw|table)_\w+")
 
 HEAD = """# The crates
 
-Written by `bench/index.py` from `crates.txt` and the page of each crate, which says what the crate promises, why it is built so, what it does not promise, and how it was attacked. Groups are in the order in which a newcomer walks.
+Written by `bench/index.py` from `crates.txt` and the page of each crate, `crates/NAME/README.md`, which says what the crate promises, why it is built so, what it does not promise, and how it was attacked. Groups are in the order in which a newcomer walks.
 
 *Stands on* names the highest crates that a crate uses, and so all below them. [*Wrong*](PLANTED.md) are wrong bodies that the checker has to refuse: tried by the gate + by hand. *Run by* are the nearest tables above a crate; `itself` is one.
 """
@@ -75,6 +75,14 @@ def tables_of(crate: str) -> list[str]:
     return []
 
 
+def in_short(tables: list[str]) -> str:
+    """Returns some tables, or those that are left out where these are few."""
+    others = [it.removeprefix("table_") for it in uses() if it.startswith("table_") and it != "table_common" and it.removeprefix("table_") not in tables]
+    if len(others) > 2:
+        return ", ".join(tables)
+    return "all but " + ", ".join(others) if others else "all"
+
+
 def lines_in(crate: str, folder: str, ending: str) -> int:
     """Returns how many lines the crate's files with this ending have in this folder."""
     return sum(it.read_bytes().count(b"\n") for it in (CRATES / crate / folder).rglob(f"*{ending}"))
@@ -92,8 +100,8 @@ def row(crate: str) -> str:
     """Returns the line of a crate in its table."""
     by_gate, by_hand = len(planted.edits_of(crate, "must-fail")), len(planted.edits_of(crate))
     bodies = f"{by_gate} + {by_hand}" if by_gate else str(by_hand or "")
-    tables = "itself" if (CRATES / crate / "stdout").is_file() else ", ".join(it.removeprefix("table_") for it in tables_of(crate))
-    cells = [f"[{crate}](../crates/{crate})", purpose(crate), " ".join(stands_on(crate)), bodies, tables]
+    tables = "itself" if (CRATES / crate / "stdout").is_file() else in_short([it.removeprefix("table_") for it in tables_of(crate)])
+    cells = [crate, purpose(crate), " ".join(stands_on(crate)), bodies, tables]
     return "| " + " | ".join(cells) + " |"
 
 

@@ -50,7 +50,7 @@ def arguments_of(words):
 
 
 def request(names, line):
-    """The frame of a line: `start SORT CASE`, `choose NODE RULE {..}`, `push to ROLE ..`, `pull PLACE`, `list PLACE`."""
+    """The frame of a line: `start SORT CASE`, `choose TASK RULE {..}`, `push to ROLE ..`, `pull PLACE`, `list PLACE`."""
     kind, _, behind = line.partition(" ")
     words = Words(names, behind)
     if kind == "start":

@@ -281,7 +281,7 @@ def listed(names: set[Name]) -> str:
     rows = []
     for crate, here in crates.items():
         files = ["/".join(it.relative_to(CRATES / crate).parts).removeprefix("specs/").removesuffix(".antt") for it in files_of(here)]
-        rows.append(f"- [{crate}](../crates/{crate}), {lines_of(here):,}: {', '.join(files)}")
+        rows.append(f"- {crate}, {lines_of(here):,}: {', '.join(files)}")
     return "\n".join(rows)
 
 

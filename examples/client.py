@@ -3,7 +3,7 @@
 
     client.py [--timeout SECONDS] SPECIFICATION ROLE list
     client.py [--timeout SECONDS] SPECIFICATION ROLE start SORT NUMBER
-    client.py [--timeout SECONDS] SPECIFICATION ROLE choose NODE RULE [{ARGUMENTS}]
+    client.py [--timeout SECONDS] SPECIFICATION ROLE choose TASK RULE [{ARGUMENTS}]
     client.py [--timeout SECONDS] SPECIFICATION ROLE pull [PLACE]
     client.py [--timeout SECONDS] SPECIFICATION ROLE push [MESSAGE]
 

@@ -26,16 +26,16 @@ con unpaid 0
 % The letter to the customer: verdict and payment.
 con letter 2
 
-% A claim begins a case. Its result is the letter.
+% What a customer asks for. It ends with the letter to the customer.
 sort claim front 0 1
-% An assessment inherits the damage. Its result is the verdict.
+% Look at the damage, and decide whether something is paid, and how much.
 sort assessment assessor 1 1
-% A survey and a decision are the assessor's own tasks. They are not offered,
-% so no other role can ask for them.
+% Have a look at the damage, and say what you found. Surveys and decisions are
+% the assessor's own tasks: no other office can ask for them.
 sort survey assessor 1 1
-% A decision inherits the amount asked for and the surveyor's finding.
+% What the survey found decides how much is paid.
 sort decision assessor 2 1
-% A payment inherits the account and the verdict. Its result is what was done.
+% Pay what was granted, or file the claim away where it was denied.
 sort payment payments 2 1
 
 start claim
@@ -67,15 +67,15 @@ carry survey (text)<finding>
 carry decision (num, finding)<verdict>
 carry payment (account, verdict)<payment>
 
-% The customer's form. The verdict v is the result of the first subtask, and
-% is handed to the second: results may go sideways, as long as nothing needs
-% itself. Both end in the letter.
-rule open_claim {policy, what, asked, number} : claim()<letter(v, p)> = assessment(damage(policy, what, asked))<v> ; payment(account(number), v)<p>
+% The customer's form: the number of the policy, what happened, how much is asked
+% for, and where the money goes. The assessor and payments are told at once, and
+% what they decide and pay ends in the letter.
+rule open_claim {policy, what, asked, iban} : claim()<letter(v, p)> = assessment(damage(policy, what, asked))<v> ; payment(account(iban), v)<p>
 
 % Small claims: the assessor grants an amount without a survey.
 rule grant {amount} : assessment(damage(policy, what, asked))<granted(amount)>
 
-% The assessor refuses.
+% Nothing is paid; the customer is told why.
 rule deny {why} : assessment(x)<denied(why)>
 
 % Large claims: somebody has a look first. The surveyor is told what happened,
@@ -83,18 +83,18 @@ rule deny {why} : assessment(x)<denied(why)>
 % was found.
 rule inspect : assessment(damage(policy, what, asked))<v> = survey(what)<found> ; decision(asked, found)<v>
 
-% The surveyor's two forms.
+% It can be repaired: enter what that costs.
 rule find_repairable {cost} : survey(what)<repairable(cost)>
 rule find_destroyed : survey(what)<destroyed>
 
-% What follows from the finding. No fields: the amounts are known. There is one
-% rule for each finding, and the patterns make sure that only one of them fits.
+% The finding decides which of the two can be done. Nothing is entered, as the
+% amounts are known: what the repair costs, or all that was asked for.
 rule pay_repair : decision(asked, repairable(cost))<granted(cost)>
 rule pay_all : decision(asked, destroyed)<granted(asked)>
 
-% Payments acts on the verdict. Until it has arrived both rules wait.
-rule pay : payment(account(number), granted(amount))<paid(number, amount)>
-rule file_away : payment(account(number), denied(why))<unpaid>
+% Pay what the assessor granted. Until the verdict is here nothing can be done.
+rule pay : payment(account(iban), granted(amount))<paid(iban, amount)>
+rule file_away : payment(account(iban), denied(why))<unpaid>
 
 schedule
 % A large claim.

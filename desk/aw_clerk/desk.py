@@ -23,15 +23,17 @@ from .wording import FAULTY, Wording, same_names, titled, wording
 LOG = logging.getLogger("aw_desk")
 LOG.addHandler(logging.NullHandler())
 CLOSED = "The office is closed. Nothing was sent; try again later."
+DECIDED = ("developed", "unknown", "known")
 BROKEN = "The office broke off while it was asked, so it is not known whether this was done. Look at the task again before you repeat it."
 
 
 @dataclass(frozen=True, slots=True)
 class Said:
-    """What came of a choice: a sentence, and whether it was done."""
+    """What came of a choice: a sentence, whether it was done, and whether the same may be sent again."""
 
     words: str
     done: bool
+    again: bool = False
 
 
 class Desk:
@@ -119,16 +121,16 @@ class Desk:
             answer = send()
         except Closed as closed:
             LOG.warning("%s; nothing was sent", closed)
-            return Said(CLOSED, False)
+            return Said(CLOSED, False, True)
         except Unsure as unsure:
             LOG.warning("%s at %s", unsure, task)
             self.records.decide(clerk, task, rule, words, UNSURE)
             return Said(BROKEN, False)
         except Unfit as unfit:
-            return Said(str(unfit), False)
+            return Said(str(unfit), False, True)
         self.records.decide(clerk, task, rule, words, answer)
         if answer != "taken":
-            return Said(self.wording.answer(answer), False)
+            return Said(self.wording.answer(answer), False, answer not in DECIDED)
         return Said(self.done(task, rule), True)
 
     def done(self, task: str, rule: str) -> str:

@@ -16,6 +16,7 @@ from werkzeug.wrappers import Response
 
 from . import book, trees
 from .desk import Desk
+from .entered import Entered
 from .logins import Logins
 from .tasks import Task, steps_of
 from .values import LARGEST, Value, groups_of
@@ -57,6 +58,7 @@ class Pages:
     def __init__(self, desk: Desk, logins: Logins | None, templates: Path) -> None:
         self.desk, self.logins, self.templates = desk, logins, templates
         self.turn = threading.Lock()
+        self.entered = Entered()
         self.highest: dict[str, int] = {}
 
     # who
@@ -81,6 +83,18 @@ class Pages:
     def is_forged(self) -> bool:
         """Whether a form was not made by this session."""
         return not hmac.compare_digest(str(flask.request.form.get("token", "")).encode(), self.token().encode())
+
+    def keep(self) -> str:
+        """Keeps what was typed into the form that is refused now, unless another page may have sent it. Where the form is shown with it, or nothing."""
+        page = {"do": flask.request.path, "begun": "/begin"}.get(flask.request.endpoint or "") if flask.request.method == "POST" else None
+        if page is None or (self.is_forged() and flask.request.headers.get("Sec-Fetch-Site") != "same-origin"):
+            return ""
+        self.entered.keep(self.token(), flask.request.path, flask.request.form)
+        return quote(page)
+
+    def typed(self, page: str) -> dict[str, str]:
+        """What this session typed into a form that was refused."""
+        return self.entered.of(self.token(), page)
 
     # what
     def rows(self, tasks: list[Task]) -> list[Row]:
@@ -138,7 +152,7 @@ class Pages:
             at += 1
         return found, at if at < len(tasks) else 0
 
-    def entered(self, rule: str, words: str) -> list[tuple[str, str, str]]:
+    def noted(self, rule: str, words: str) -> list[tuple[str, str, str]]:
         """What was entered for a rule, as the desk noted it, in a few words."""
         line = self.desk.wording.spec.rules.get(rule)
         values = groups_of(words)[0] if words and line else []

@@ -5,6 +5,7 @@ import hashlib
 import secrets
 from datetime import timedelta
 from pathlib import Path
+from urllib.parse import unquote
 
 import flask
 from werkzeug.exceptions import HTTPException
@@ -23,6 +24,7 @@ from .values import LARGEST
 from .wording import human, moment, titled
 
 LONGEST_BODY, HOURS_OF_SESSION = 1 << 18, 12
+SIGNED_OUT = "You were signed out, and nothing was sent. Sign in, and the form comes back with what you entered."
 POLICY = "default-src 'none'; style-src 'self'; img-src data:; form-action 'self'; frame-ancestors 'none'; base-uri 'none'"
 
 
@@ -53,9 +55,9 @@ def guards(app: flask.Flask, pages: Pages) -> None:
         if flask.request.endpoint in ("style", "login", None):
             return None
         if not pages.clerk():
-            return flask.redirect(flask.url_for("login", then=here() if flask.request.method == "GET" else "/"), 303)
+            return flask.redirect(flask.url_for("login", then=here() if flask.request.method == "GET" else pages.keep() or "/"), 303)
         if flask.request.method == "POST" and pages.is_forged():
-            return pages.render("trouble.html", 403, title="This form is too old", words="It was made before you signed in, or by another page. Nothing was sent; open the task again.")
+            return pages.render("trouble.html", 403, title="This form is too old", words="It was made before you signed in, or by another page. Nothing was sent; open the task again.", again=pages.keep())
         named = flask.request.view_args or {}
         return pages.elsewhere(str(named.get("name") or named.get("case") or "")) if flask.request.method == "GET" else None
 
@@ -67,7 +69,7 @@ def guards(app: flask.Flask, pages: Pages) -> None:
     @app.errorhandler(NotSaid)
     def not_said(error: NotSaid) -> Answer:
         app.logger.error("%s", error)
-        return pages.render("trouble.html", 503, title="The journal can't be read now", words="Nothing was changed. Try again in a moment; if it stays so, tell whoever runs the office.")
+        return pages.render("trouble.html", 503, title="The journal can't be read now", words="Nothing was changed. Try again in a moment; if it stays so, tell whoever runs the office.", again=pages.keep())
 
     @app.errorhandler(HTTPException)
     def told(error: HTTPException) -> Answer:
@@ -77,7 +79,7 @@ def guards(app: flask.Flask, pages: Pages) -> None:
     @app.errorhandler(Exception)
     def failed(error: Exception) -> Answer:
         app.logger.error("%s failed: %s: %s", flask.request.path, type(error).__name__, error)
-        return pages.render("trouble.html", 500, title="The desk failed at this", words="It is told to whoever runs the office. Look at the task again before you repeat what you did.")
+        return pages.render("trouble.html", 500, title="The desk failed at this", words="It is told to whoever runs the office. Look at the task again before you repeat what you did.", again=pages.keep())
 
     @app.get("/style.css")
     def style() -> Response:
@@ -90,14 +92,16 @@ def guards(app: flask.Flask, pages: Pages) -> None:
         if pages.logins is None:
             return flask.redirect("/", 303)
         if flask.request.method == "GET":
-            return pages.render("login.html", then=then, fault="")
+            return pages.render("login.html", then=then, name="", fault=SIGNED_OUT if pages.typed(unquote(then)) else "")
         name = flask.request.form.get("name", "")
         with pages.turn:
             fits = not pages.is_forged() and pages.logins.fits(name, flask.request.form.get("password", ""))
         if not fits:
-            return pages.render("login.html", 403, then=then, fault="This name and password do not fit. Try again.")
+            return pages.render("login.html", 403, then=then, name=name, fault="This name and password do not fit. Try again.")
+        before = pages.token()
         flask.session.clear()
         flask.session["clerk"] = name
+        pages.entered.hand_on(before, pages.token())
         return flask.redirect(then, 303)
 
     @app.post("/logout")
@@ -171,7 +175,7 @@ def reading(app: flask.Flask, pages: Pages) -> None:
     def decided() -> Answer:
         before, words = flask.request.args.get("before", ""), flask.request.args.get("words", "")
         found = desk.records.decisions(A_PAGE, int(before) if before.isdecimal() and len(before) < 19 else None, words)
-        rows = [(note, desk.wording.task(note.task), titled(note.rule) if note.rule else "Begun", moment(note.at), pages.entered(note.rule, note.entered),
+        rows = [(note, desk.wording.task(note.task), titled(note.rule) if note.rule else "Begun", moment(note.at), pages.noted(note.rule, note.entered),
                  "" if note.answer == "taken" else "It is not known whether this was done." if note.answer == UNSURE else desk.wording.answer(note.answer)) for _, note in found]
         return pages.render("log.html", rows=rows, words=words, before=found[-1][0] if len(found) == A_PAGE else 0)
 
@@ -203,28 +207,35 @@ def deciding(app: flask.Flask, pages: Pages) -> None:
     @app.route("/do/<rule>/<path:name>", methods=["GET", "POST"])
     def do(rule: str, name: str) -> Answer:
         task, line = rule_at(name, rule)
-        form, title = flask.request.form, desk.wording.task(name)
+        asked, title = flask.request.method == "GET", desk.wording.task(name)
+        form = pages.typed(flask.request.path) if asked else flask.request.form
         if not task.is_open or desk.wording.state(task, line):
             told(desk.wording.answer("developed") if not task.is_open else desk.wording.state(task, line), False)
             return flask.redirect(flask.url_for("task", name=name), 303)
-        fields = fields_of(desk.wording, line, form, flask.request.method == "POST")
+        fields = fields_of(desk.wording, line, form, bool(form))
         more = {"task": task, "title": title, "rule": line.name.text, "fields": fields, "note": desk.wording.note("rule", line.name.text)}
         ready = all(field.is_whole for field in fields)
-        if flask.request.method == "GET" and fields or not ready or form.get("back"):
-            fault = None if form.get("back") else next((found for field in fields if (found := field.first_fault)), None)
+        if asked and fields or not ready or form.get("back"):
+            fault = None if asked or form.get("back") else next((found for field in fields if (found := field.first_fault)), None)
             return pages.render("form.html", 422 if fault else 200, **more, fault=fault, given=pages.given(task, OF_A_FORM))
         entered = [field.value() for field in fields]
-        if form.get("send") != "1" or flask.request.method == "GET":
+        if asked or form.get("send") != "1":
             shown = pages.tree(entered, lambda at: line.params[at].text) if entered else ""
             return pages.render("confirm.html", 200, **more, shown=shown, hidden=hidden(fields))
         said = desk.choose(pages.clerk(), task, line, entered)
         told(said.words, said.done)
-        return flask.redirect(flask.url_for("task", name=name), 303)
+        pages.entered.forget(pages.token(), flask.request.path)
+        again = "" if said.done else pages.keep()
+        return flask.redirect(again if said.again else flask.url_for("task", name=name), 303)
 
     @app.get("/begin")
     def begin() -> Answer:
-        sorts = [(sort, titled(sort), pages.next_number(sort), desk.wording.note("sort", sort)) for sort in desk.starts()]
-        return pages.render("begin.html", sorts=sorts, fault="")
+        sorts = []
+        for sort in desk.starts():
+            page = "/begin/" + sort
+            sorts.append((sort, titled(sort), pages.typed(page).get("number") or pages.next_number(sort), desk.wording.note("sort", sort)))
+            pages.entered.forget(pages.token(), page)  # (a number is shown once more, and then the next free one)
+        return pages.render("begin.html", sorts=sorts)
 
     @app.post("/begin/<sort>")
     def begun(sort: str) -> Answer:
@@ -233,10 +244,13 @@ def deciding(app: flask.Flask, pages: Pages) -> None:
         number = number_of(flask.request.form.get("number", "").strip())
         if number is None:
             told("Enter a whole number for the case, as 120. Nothing was sent.", False)
-            return flask.redirect("/begin", 303)
+            return flask.redirect(pages.keep(), 303)
         said = desk.start(pages.clerk(), sort, number)
         pages.begun(sort, number)
         told(said.words, said.done)
+        pages.entered.forget(pages.token(), flask.request.path)
+        if said.again:
+            pages.keep()
         return flask.redirect(flask.url_for("task", name="%s#%d" % (sort, number)) if said.done else "/begin", 303)
 
 

@@ -1,6 +1,7 @@
 """The command `aw_desk_tty`: the desk in a terminal, by keys alone."""
 from __future__ import annotations
 
+import textwrap
 from collections.abc import Callable, Iterable
 
 from prompt_toolkit import PromptSession
@@ -24,11 +25,18 @@ from .wording import human, moment, titled
 
 NAME = "aw_desk_tty"
 A_SCREEN, MOST_OF_VALUES = 20, 50
-BEHIND = """
-A number chooses; an empty line goes back; `q` ends. `/words` shows the tasks with these words, `n` begins a case,
-`d` shows what was decided here, `c` a case by its number.
-The statuses are those of `aw_desk`.
-"""
+STAYS = "What you entered is there when you choose it again."
+HELP = """
+  1, 2 ..  the task with this number: what it was given, and what can be done
+  n        begin a case
+  c        a case by its number: what this office knows of it
+  d        what was decided at this desk
+  /words   only the tasks with these words; / alone shows all
+  + -      the next page of tasks, and the one before
+  h        these letters
+  q        the end
+  An empty line goes back, and at the list shows what is new. Nothing is sent without a `yes`."""
+BEHIND = "\nat the list of open tasks" + HELP + "\n\nThe statuses are those of `aw_desk`.\n"
 
 
 class Fits(Validator):
@@ -55,6 +63,7 @@ class Terminal:
         self.desk, self.clerk = desk, clerk
         self.session: PromptSession[str] = PromptSession()
         self.words, self.at = "", 0
+        self.typed: dict[tuple[str, str], dict[str, str]] = {}
 
     def ask(self, words: str, test: Callable[[str], str] = lambda _: "", choices: list[str] | None = None, default: str = "") -> str:
         """What is typed behind some words."""
@@ -66,7 +75,7 @@ class Terminal:
         while True:
             tasks = ordered(wanted(list(self.desk.open().values()), self.words, "", False, self.desk.wording), "old", self.desk.records.since)
             self.screen(tasks)
-            said = self.ask("Number, n, d, c, + or -, /words, q: ").strip()
+            said = self.ask("Number of a task, or a letter (h for help): ").strip()
             if said == "q":
                 return
             try:
@@ -92,7 +101,9 @@ class Terminal:
 
     def go(self, said: str, tasks: list[Task]) -> None:
         """Does what was typed at the list."""
-        if said == "n":
+        if said == "h":
+            print(HELP)
+        elif said == "n":
             self.begin()
         elif said == "d":
             self.decided()
@@ -111,6 +122,7 @@ class Terminal:
         """Shows a task, and asks what to do."""
         wording = self.desk.wording
         print("\n%s" % titled(wording.task(task.name)))
+        self.help("sort", wording.sort(task.name))
         print("\n".join(trees.lines(wording, trees.lists(wording, task)["given"])))
         rules = [rule for rule in wording.rules(task.name) if not wording.state(task, rule)]
         for rule in wording.rules(task.name):
@@ -121,33 +133,45 @@ class Terminal:
             print("%4d  %s" % (number, titled(rule.name.text)))
         if not rules:
             raise Back
-        said = self.ask("What to do: ", lambda text: "" if not text or text.isdecimal() and 0 < int(text) <= len(rules) else "A number from 1 to %d, or an empty line." % len(rules))
+        said = self.ask("What to do (a number; an empty line goes back): ", lambda text: "" if not text or text.isdecimal() and 0 < int(text) <= len(rules) else "A number from 1 to %d, or an empty line." % len(rules))
         if not said:
             raise Back
         self.do(task, rules[int(said) - 1])
 
     def do(self, task: Task, rule: RuleLine) -> None:
-        """Asks for the fields of a rule, shows them, and sends them."""
+        """Asks for the fields of a rule, shows them, and sends them. What was typed and not taken is there when the rule is chosen once more."""
         wording = self.desk.wording
+        self.help("rule", rule.name.text)
         form: dict[str, str] = {}
+        typed = self.typed.setdefault((task.name, rule.name.text), {})
         while (field := missing(fields_of(wording, rule, form, True), form)) is not None:
-            self.fill(field, form)
+            self.fill(field, form, typed)
+            typed.update(form)
         entered = [field.value() for field in fields_of(wording, rule, form, True)]
         print("\n%s: send this?" % titled(rule.name.text))
         print("\n".join(trees.lines(wording, [(rule.params[at].text, value) for at, value in enumerate(entered)])) or "   (nothing is entered)")
         if self.ask("yes or no: ", lambda text: "" if text.strip() in ("yes", "no", "") else "Type yes or no.", ["yes", "no"]).strip() != "yes":
-            print("Nothing was sent.")
+            print("Nothing was sent. " + STAYS)
             raise Back
-        print(self.desk.choose(self.clerk, task, rule, entered).words)
+        said = self.desk.choose(self.clerk, task, rule, entered)
+        if said.done:
+            del self.typed[task.name, rule.name.text]
+        print("%s %s" % (said.words, STAYS) if said.again else said.words)
 
-    def fill(self, field: Field, form: dict[str, str]) -> None:
-        """Asks what a field is, where that is not known, or what is in it."""
+    def help(self, form: str, name: str) -> None:
+        """Shows what the specification's author wrote above a line."""
+        for line in textwrap.wrap(self.desk.wording.note(form, name), 76):
+            print("   " + line)
+
+    def fill(self, field: Field, form: dict[str, str], typed: dict[str, str]) -> None:
+        """Asks what a field is, where that is not known, or what is in it; what was typed before stands there already."""
         words = {words: value for value, words in field.options}
+        was = next((word for word, value in words.items() if value == typed.get(field.key + ".is")), "")
         if field.options and field.kind is None and field.key + ".is" not in form:
-            said = self.ask("%s is (%s; an empty line for a text): " % (field.label, some(words)), lambda text: "" if text.strip() in ("", *words) else "One of: %s." % ", ".join(words), list(words))
+            said = self.ask("%s is (%s; an empty line for a text): " % (field.label, some(words)), lambda text: "" if text.strip() in ("", *words) else "One of: %s." % ", ".join(words), list(words), was)
             form[field.key + ".is"] = words.get(said.strip(), TEXT)
         elif field.options and not field.chosen:
-            said = self.ask("%s (%s): " % (field.label, some(words)), lambda text: "" if text.strip() in ("", *words) else "One of: %s." % ", ".join(words), list(words)).strip()
+            said = self.ask("%s (%s): " % (field.label, some(words)), lambda text: "" if text.strip() in ("", *words) else "One of: %s." % ", ".join(words), list(words), was).strip()
             if not said:
                 raise Back
             form[field.key + ".is"] = words[said]
@@ -155,7 +179,8 @@ class Terminal:
             if field.fault and field.key + ".seen" in form:
                 print(field.fault)
             form[field.key + ".seen"] = "1"
-            form[field.key] = self.ask("%s: " % field.label, lambda text: number_fault(text) if field.is_number else "").replace("\\n", "\n")
+            was = typed.get(field.key, "").replace("\n", "\\n")
+            form[field.key] = self.ask("%s: " % field.label, lambda text: number_fault(text) if field.is_number else "", default=was).replace("\\n", "\n")
 
     def decided(self) -> None:
         """Shows what was decided at this desk, and what came of one of it."""
@@ -166,7 +191,7 @@ class Terminal:
         if not notes:
             print("Nothing was decided at this desk yet.")
             raise Back
-        said = self.ask("Number: ", lambda text: "" if not text or text.isdecimal() and 0 < int(text) <= len(notes) else "A number from 1 to %d, or an empty line." % len(notes))
+        said = self.ask("Which one (a number; an empty line goes back): ", lambda text: "" if not text or text.isdecimal() and 0 < int(text) <= len(notes) else "A number from 1 to %d, or an empty line." % len(notes))
         task = self.desk.task(notes[int(said) - 1].task) if said else None
         if task is not None:
             self.whole(task)

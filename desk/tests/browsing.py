@@ -7,6 +7,8 @@ import re
 import urllib.parse
 from dataclasses import dataclass, field
 
+from systems import LONG
+
 VOID = {"meta", "link", "input", "br", "hr", "img"}
 
 
@@ -115,12 +117,12 @@ class Browser:
         self.port, self.cookies = port, dict[str, str]()
         self.page: Page | None = None
 
-    def ask(self, method: str, url: str, body: bytes | None = None, kind: str = "application/x-www-form-urlencoded") -> Page:
-        """Asks for a page, and follows where it leads."""
-        peer = http.client.HTTPConnection("127.0.0.1", self.port, timeout=120)
+    def ask(self, method: str, url: str, body: bytes | None = None, kind: str = "application/x-www-form-urlencoded", site: str = "cross-site") -> Page:
+        """Asks for a page, and follows where it leads. A form says from what kind of page it is sent."""
+        peer = http.client.HTTPConnection("127.0.0.1", self.port, timeout=LONG)
         headers = {"Cookie": "; ".join("%s=%s" % pair for pair in self.cookies.items())} if self.cookies else {}
         if body is not None:
-            headers["Content-Type"] = kind
+            headers.update({"Content-Type": kind, "Sec-Fetch-Site": site})
         peer.request(method, url, body, headers)
         answer = peer.getresponse()
         text = answer.read().decode("utf-8", "surrogateescape")
@@ -155,7 +157,7 @@ class Browser:
         data = urllib.parse.urlencode(pairs, encoding="utf-8", errors="surrogateescape")
         if form.method == "get":
             return self.get(form.action + "?" + data)
-        return self.ask("POST", urllib.parse.urljoin(self.page.url, form.action), data.encode())
+        return self.ask("POST", urllib.parse.urljoin(self.page.url, form.action), data.encode(), site="same-origin")
 
     def set(self, form: Form, label: str, value: str) -> None:
         """Enters a value in the field with a label."""

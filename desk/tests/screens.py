@@ -10,9 +10,10 @@ from pathlib import Path
 
 import pytest
 from conftest import FIRST_DESK
-from systems import until
+from systems import LONG, until
 
 from selenium import webdriver
+from selenium.common.exceptions import WebDriverException
 from selenium.webdriver.chrome.service import Service
 from selenium.webdriver.common.by import By
 from selenium.webdriver.common.keys import Keys
@@ -45,7 +46,7 @@ class Screen:
             options.add_argument(flag)
         options.set_capability("goog:loggingPrefs", {"browser": "ALL"})
         self.driver = webdriver.Chrome(service=Service(str(DRIVER)), options=options)
-        self.driver.set_page_load_timeout(60)
+        self.driver.set_page_load_timeout(LONG)
         self.seen: list[str] = []
 
     def at(self, number: int, path: str = "/") -> str:
@@ -62,7 +63,7 @@ class Screen:
         driver = self.driver
         for width in (320, 390, 1000):
             self.wide(width)
-            assert driver.execute_script("return innerWidth") == width
+            until(lambda: driver.execute_script("return innerWidth") == width, "the screen does not get %d wide" % width)
             assert driver.execute_script("return document.documentElement.scrollWidth") <= width, "wider than %d: %s" % (width, driver.current_url)
             assert not driver.execute_script(SMALL), (driver.current_url, driver.execute_script(SMALL))
         assert not driver.execute_script(BRIGHTNESS), (driver.current_url, driver.execute_script(BRIGHTNESS))
@@ -91,8 +92,15 @@ class Screen:
         """Does something that leads to another page, and waits until it is there; its words."""
         self.driver.execute_script("window.left = 1")
         work()
-        until(lambda: self.driver.execute_script('return window.left === undefined && document.readyState === "complete"'), "no other page", 60)
+        until(self.is_there, "no other page")
         return self.looked()
+
+    def is_there(self) -> bool:
+        """Whether another page is there, whole; while one comes there may be nothing to ask."""
+        try:
+            return bool(self.driver.execute_script('return window.left === undefined && document.readyState === "complete"'))
+        except WebDriverException:
+            return False
 
     def click(self, words: str) -> str:
         """Clicks on a link or a button with some words."""

@@ -22,7 +22,7 @@ def test_a_claim_by_clicks(company: Make, screen: Screen) -> None:  # noqa: F811
     screen.click("Begin a case")
     screen.click("Begin claim")
     screen.click("Open claim")
-    screen.enter(Policy="seven", What=hostile, Asked="12000", Number="DK50 0040")
+    screen.enter(Policy="seven", What=hostile, Asked="12000", Iban="DK50 0040")
     screen.driver.find_element(By.XPATH, "//button[text()='Go on']").click()
     assert screen.driver.execute_script("return document.querySelector('input:invalid') !== null"), "the browser itself refuses a word where a number is due"
     screen.enter(Policy="88012")
@@ -67,7 +67,7 @@ def test_a_claim_by_keys_alone(company: Make, screen: Screen) -> None:  # noqa: 
     screen.keys("77")
     assert "Claim 77 has begun." in screen.moved(lambda: screen.keys(Keys.ENTER))
     screen.enter_on("Open claim")
-    for label, value in (("Policy", "1"), ("What", "by keys"), ("Asked", "2"), ("Number", "n")):
+    for label, value in (("Policy", "1"), ("What", "by keys"), ("Asked", "2"), ("Iban", "n")):
         screen.tab_to(label)
         screen.keys(value)
     assert "by keys" in screen.enter_on("Go on")

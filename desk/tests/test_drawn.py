@@ -168,7 +168,7 @@ def test_pages_are_what_the_book_says(company: Make, example: str) -> None:
     draw = Draw(made, len(example))
     for number in range(1, RUNS[example] + 1):
         draw.run(number)
-    until(lambda: not made.system.unsettled(), "the letters did not come: %s" % made.system.log()[-1000:])
+    until(lambda: not made.system.unsettled() and made.system.carried(), "the letters did not come: %s" % made.system.log()[-1000:])
     lines = aw("plain", made.system.text + "schedule 2\n" + "".join(line + "\n" for line in made.system.lines)).split("\nartifacts ", 1)[1].split("\n")[1:-1]
     plain = tasks_of(lines)
     shown = set[str]()

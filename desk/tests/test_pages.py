@@ -2,15 +2,17 @@
 from __future__ import annotations
 
 import contextlib
+import os
+import signal
 import time
 from collections.abc import Callable
 from pathlib import Path
 
 import pytest
 from conftest import CLAIM_TEXT, TOP, TYPED, Company
-from systems import until
+from systems import LONG, until
 
-from aw_clerk.desk import Desk
+from aw_clerk.desk import CLOSED, Desk
 from aw_clerk.logins import line_of
 from aw_clerk.tasks import tasks_of
 from aw_clerk.values import NUMBER, TEXT, Value
@@ -21,8 +23,8 @@ Make = Callable[[str], Company]
 
 
 def settled(company: Company) -> None:
-    """Waits until every letter has come."""
-    until(lambda: not company.system.unsettled(), "the letters did not come: %s" % company.system.log()[-1000:])
+    """Waits until every letter has come: answers change no worklist."""
+    until(lambda: not company.system.unsettled() and company.system.carried(), "the letters did not come: %s" % company.system.log()[-1000:])
 
 
 def good(browser: Browser) -> str:
@@ -44,7 +46,7 @@ def test_a_claim_by_clicks(company: Make) -> None:
     assert "Claim 501 has begun." in good(front)
     front.follow("Open claim")
     good(front)
-    front.press("Go on", Policy="88012", What="storm, roof", Asked="12000", Number="DK50 0040")
+    front.press("Go on", Policy="88012", What="storm, roof", Asked="12000", Iban="DK50 0040")
     text = good(front)
     assert "send this?" in text and "storm, roof" in text and "12000" in text
     front.press("Send")
@@ -78,7 +80,7 @@ def test_a_claim_by_clicks(company: Make) -> None:
     text = good(front)
     assert "Decided: Open claim, by front, today" in text and "8000" in text and "not there yet" not in text
     front.follow("Decided")
-    assert all(words in good(front) for words in ("Policy 88012", "What storm, roof", "Asked 12000", "Number DK50 0040"))
+    assert all(words in good(front) for words in ("Policy 88012", "What storm, roof", "Asked 12000", "Iban DK50 0040"))
     for role in made.roles:
         assert not made.log(role).replace("aw_desk: the desk of %s is at http://127.0.0.1:%d/\n" % (role, made.port(role)), "")
 
@@ -150,7 +152,7 @@ def test_any_text_comes_through(company: Make, text: str) -> None:
     front.get("/begin")
     front.press("Begin claim", Number_of_the_case="1")
     front.follow("Open claim")
-    front.press("Go on", Policy="1", What=text, Asked="2", Number="n")
+    front.press("Go on", Policy="1", What=text, Asked="2", Iban="n")
     front.press("Send")
     assert "Open claim: done for claim 1." in good(front)
     row = tasks_of(made.book("tasks", made.journal("front")))["claim#1"]
@@ -183,10 +185,10 @@ def test_what_no_text_may_have_is_told(company: Make) -> None:
     front.press("Begin claim")
     front.follow("Open claim")
     for what, words in (("tab\there", "a sign in it that no text may have"), ("ø" * 513, "This text has 1026 bytes")):
-        front.press("Go on", Policy="1", What=what, Asked="2", Number="n")
+        front.press("Go on", Policy="1", What=what, Asked="2", Iban="n")
         assert words in good(front) and front.page.status == 422
     for number in ("", "-1", "1.5", "18446744073709551616", "9" * 100, "٣"):
-        front.press("Go on", Policy=number, What="w", Asked="2", Number="n")
+        front.press("Go on", Policy=number, What="w", Asked="2", Iban="n")
         assert front.page.status == 422 and ("whole number" in good(front) or "Enter a number" in good(front) or "too large" in good(front)), number
     assert not [task for task in tasks_of(made.book("tasks", made.journal("front"))).values() if not task.is_open]
 
@@ -246,13 +248,23 @@ def test_two_clerks(company: Make, tmp_path: Path) -> None:
     assert "ada is at it" in bob.get("/").text()
     assert "ada has been at this task since" in bob.follow("Claim 1").text()
     bob.follow("Open claim")
-    bob.press("Go on", Policy="1", What="w", Asked="2", Number="n")
+    bob.press("Go on", Policy="1", What="w", Asked="2", Iban="n")
     ada.follow("Open claim")
-    ada.press("Go on", Policy="1", What="first", Asked="2", Number="n")
+    ada.press("Go on", Policy="1", What="first", Asked="2", Iban="n")
     ada.press("Send")
     bob.press("Send")
     assert "Somebody has already decided this task. Nothing was changed." in good(bob)
     assert "Decided: Open claim, by ada" in good(bob)
+    ada.get("/begin")
+    ada.press("Begin claim", Number_of_the_case="2")
+    bob.get("/do/open_claim/claim%232")
+    bob.cookies = {}  # (as if the session had ended overnight)
+    bob.press("Go on", Policy="1", What="overnight", Asked="2", Iban="n")
+    assert "You were signed out, and nothing was sent." in good(bob)
+    assert bob.press("Sign in", Name="bob", Password="wrong").status == 403 and 'value="bob"' in bob.page.source
+    bob.press("Sign in", Name="bob", Password="battery staple")
+    assert bob.page.url == "/do/open_claim/claim%232" and entered(bob) == ["1", "overnight", "2", "n"]
+    assert "overnight" not in ada.get("/do/open_claim/claim%232").source, "another session has none of it"
     bob.press("Sign out")
     assert "Sign in" in bob.get("/").text()
     logins.write_text("ada\n", encoding="utf-8")
@@ -274,7 +286,7 @@ def test_two_desks_in_one_browser(company: Make) -> None:
     assessor.get("/")
     front.follow("Open claim")
     assessor.get("/decided")
-    front.press("Go on", Policy="1", What="w", Asked="2", Number="n")
+    front.press("Go on", Policy="1", What="w", Asked="2", Iban="n")
     assert "send this?" in good(front) and len(front.cookies) == 2
 
 
@@ -301,19 +313,68 @@ def test_a_node_that_is_killed_while_a_form_is_open(company: Make) -> None:
     made = company(TYPED)
     front = made.open_desk("front")
     front.get("/begin")
-    front.press("Begin claim", Number_of_the_case="1")
+    made.system.nodes["front"].kill()
+    front.press("Begin claim", Number_of_the_case="501")
+    assert CLOSED in good(front)
+    made.system.nodes["front"].start()
+    front.press("Begin claim")
+    assert "Claim 501 has begun." in good(front)
     front.follow("Open claim")
-    front.press("Go on", Policy="1", What="w", Asked="2", Number="n")
+    front.press("Go on", Policy="1", What="storm,\nroof", Asked="2", Iban="n")
     made.system.nodes["front"].kill()
     front.press("Send")
-    assert "The office is closed. Nothing was sent; try again later." in good(front)
-    assert "Open claim" in good(front), "the task is still shown"
+    assert CLOSED in good(front) and entered(front) == ["1", "storm,\nroof", "2", "n"], "the form is shown with what was typed"
+    for url in (front.page.url, "/", "/do/open_claim/claim%23501"):
+        front.get(url)
+        assert CLOSED not in good(front), "loading it again sends nothing"
+    assert entered(front) == ["1", "storm,\nroof", "2", "n"]
     made.system.nodes["front"].start()
-    front.follow("Open claim")
-    front.press("Go on", Policy="1", What="w", Asked="2", Number="n")
+    front.press("Go on", Asked="3")
     front.press("Send")
-    assert "Open claim: done for claim 1." in good(front)
+    assert "Open claim: done for claim 501." in good(front)
+    assert tasks_of(made.book("tasks", made.journal("front")))["claim#501"].text.startswith('{1, "storm,\\nroof", 3, "n"}')
     assert "Traceback" not in made.log("front") and "7400" not in good(front)
+
+
+def entered(browser: Browser) -> list[str]:
+    """What is in the fields of the page's form."""
+    assert browser.page is not None
+    return [control.value for form in browser.page.forms for control in form.controls if control.kind != "hidden"]
+
+
+def test_a_rule_without_fields_at_a_closed_office(company: Make) -> None:
+    """It is asked for once more."""
+    made = company(NESTED.replace("rule place {what} : order()<what>", "rule place : order()<empty>"))
+    shop = made.open_desk("shop")
+    assert made.system.choose("start order 1") == "taken"
+    shop.get("/task/order%231")
+    shop.follow("Place")
+    made.system.nodes["shop"].kill()
+    shop.press("Send")
+    assert CLOSED in good(shop) and "send this?" in good(shop)
+    made.system.nodes["shop"].start()
+    shop.press("Send")
+    assert "Place: done for order 1." in good(shop)
+
+
+def test_a_journal_that_cant_be_read_while_a_form_is_open(company: Make) -> None:
+    """What was typed is there when the journal can be read again, unless another site has sent it."""
+    made = company(TYPED)
+    front = made.open_desk("front")
+    assert made.system.choose("start claim 1") == "taken"
+    front.get("/do/open_claim/claim%231")
+    journal = Path(made.journal("front"))
+    aside = journal.rename(journal.with_suffix(".aside"))
+    for child in children(made, "front"):
+        os.kill(child, signal.SIGKILL)
+    front.press("Go on", Policy="1", What="storm", Asked="2", Iban="n")
+    assert front.page.status == 503 and "The journal can't be read now" in good(front)
+    aside.rename(journal)
+    front.follow("The form, with what you entered")
+    assert front.page.status == 200 and entered(front) == ["1", "storm", "2", "n"] and good(front)
+    forged = front.ask("POST", "/do/open_claim/claim%231", b"token=x&f0=7&f1=forged")
+    assert forged.status == 403 and "what you entered" not in forged.text()
+    assert entered(front) == [] and "forged" not in front.get("/do/open_claim/claim%231").source
 
 
 def test_the_desk_and_the_book_are_killed(company: Make) -> None:
@@ -324,10 +385,8 @@ def test_the_desk_and_the_book_are_killed(company: Make) -> None:
         front.get("/begin")
         front.press("Begin claim", Number_of_the_case=str(number))
         assert "has begun" in good(front)
-        children = [int(path.name) for path in Path("/proc").glob("[0-9]*") if parent(path) == made.desks["front"].pid]
-        for child in children:
-            import os
-            os.kill(child, 9)
+        for child in children(made, "front"):
+            os.kill(child, signal.SIGKILL)
         assert "%d open tasks" % number in front.get("/").text() or number == 1
         made.desks["front"].kill()
         made.desks["front"].wait()
@@ -335,6 +394,11 @@ def test_the_desk_and_the_book_are_killed(company: Make) -> None:
         assert "Begun" in front.get("/decided").text() and front.page.text().count("Begun") == number
     front.get("/begin")
     assert 'value="6"' in front.page.source
+
+
+def children(made: Company, role: str) -> list[int]:
+    """The processes that a desk has begun: its books."""
+    return [int(path.name) for path in Path("/proc").glob("[0-9]*") if parent(path) == made.desks[role].pid]
 
 
 def parent(path: Path) -> int:
@@ -368,7 +432,7 @@ def test_words_that_are_wrong(company: Make, tmp_path: Path) -> None:
     desk, state = str(TOP / "desk" / "aw_desk"), str(tmp_path / "state")
 
     def said(*words: str) -> tuple[int, str]:
-        done = subprocess.run(["/usr/bin/python3", desk, *words], capture_output=True, timeout=60, text=True)
+        done = subprocess.run(["/usr/bin/python3", desk, *words], capture_output=True, timeout=LONG, text=True)
         assert "Traceback" not in done.stderr and done.stderr.count("\n") == 1, done.stderr
         return done.returncode, done.stderr
     spec, journal = str(made.system.spec), made.journal("front")

@@ -9,7 +9,7 @@ from collections.abc import Callable, Iterator
 
 import pytest
 from conftest import TOP, TYPED, Company
-from systems import until
+from systems import LONG, until
 
 from aw_clerk.tasks import tasks_of
 
@@ -22,11 +22,11 @@ class Screen:
     def __init__(self, line: list[str]) -> None:
         assert shutil.which("tmux"), "not run: tmux is missing; `ci/setup desk` installs it"
         self.room = tempfile.TemporaryDirectory()
-        self.tmux("new-session", "-d", "-x", "100", "-y", "40", "env LANG=C.UTF-8 LC_ALL=C.UTF-8 " + shlex.join(line) + "; echo ended $?; sleep 60")
+        self.tmux("new-session", "-d", "-x", "100", "-y", "40", "env LANG=C.UTF-8 LC_ALL=C.UTF-8 " + shlex.join(line) + "; echo ended $?; sleep infinity")
 
     def tmux(self, *words: str) -> str:
         """Does something with the terminal."""
-        return subprocess.run(["tmux", "-S", self.room.name + "/tmux", "-f", "/dev/null", *words], capture_output=True, text=True, timeout=60, check=True).stdout
+        return subprocess.run(["tmux", "-S", self.room.name + "/tmux", "-f", "/dev/null", *words], capture_output=True, text=True, timeout=LONG, check=True).stdout
 
     def shown(self) -> str:
         """What is on the screen."""
@@ -34,7 +34,7 @@ class Screen:
 
     def wait(self, words: str) -> None:
         """Waits until some words are on the screen."""
-        until(lambda: words in self.shown(), "no %r" % words, 60)
+        until(lambda: words in self.shown(), lambda: "no %r in\n%s" % (words, self.shown()))
 
     def type(self, keys: str, then: str) -> None:
         """Types a line, and waits for what comes."""
@@ -42,9 +42,15 @@ class Screen:
         self.tmux("send-keys", "Enter")
         self.wait(then)
 
+    def clear(self) -> None:
+        """Takes away what is on the screen, when the list asks for something, so that what comes is new."""
+        until(lambda: self.shown().rstrip().endswith("(h for help):"), "the list asks for nothing")
+        self.tmux("send-keys", "C-l")
+        until(lambda: self.shown().count("\n") - self.shown().rstrip("\n").count("\n") > 30, "the screen is not cleared")
+
     def end(self) -> None:
         """Ends the terminal."""
-        subprocess.run(["tmux", "-S", self.room.name + "/tmux", "kill-server"], capture_output=True, timeout=60)
+        subprocess.run(["tmux", "-S", self.room.name + "/tmux", "kill-server"], capture_output=True, timeout=LONG)
         self.room.cleanup()
 
 
@@ -69,14 +75,16 @@ def test_a_claim_by_keys(company: Make, screens: Callable[[list[str]], Screen]) 
     screen.tmux("send-keys", "BSpace")
     screen.type("12", "Claim 12 has begun.")
     screen.wait("Front: 1 open")
-    screen.type("1", "What to do:")
+    screen.type("1", "What to do (")
+    assert "What a customer asks for." in screen.shown()
     screen.type("1", "Policy:")
+    assert "The customer's form: the number of the policy" in screen.shown()
     screen.type("88012", "What:")
     screen.type('storm æøå "roof"', "Asked:")
     screen.type("many", "A whole number, please.")
     for _ in "many":
         screen.tmux("send-keys", "BSpace")
-    screen.type("12000", "Number:")
+    screen.type("12000", "Iban:")
     screen.type("DK50 0040", "send this?")
     screen.wait("yes or no:")
     screen.type("yes", "Open claim: done for claim 12.")
@@ -85,7 +93,7 @@ def test_a_claim_by_keys(company: Make, screens: Callable[[list[str]], Screen]) 
     screen.wait("Front: 0 open")
     screen.type("d", "ada: Claim 12: open claim")
     screen.type("1", "not there yet: assessor owes it, at assessment, claim 12")
-    assert "Number: DK50 0040" in screen.shown()
+    assert "Iban: DK50 0040" in screen.shown()
     screen.type("c", "Number of the case:")
     screen.type("12", "Claim 12: open claim")
     screen.type("q", "ended 0")
@@ -114,22 +122,31 @@ def test_nothing_is_sent_without_a_yes(company: Make, screens: Callable[[list[st
     made.system.choose("start claim 1")
     screen = screens(["/usr/bin/python3", str(TOP / "desk" / "aw_desk_tty"), str(made.system.spec), made.journal("front"), str(made.folder / "tty")])
     screen.wait("Front: 1 open")
+    screen.type("h", "the next page of tasks, and the one before")
     screen.type("7", "There is no task 7.")
-    screen.type("1", "What to do:")
+    screen.type("1", "What to do (")
     screen.type("1", "Policy:")
     screen.type("1", "What:")
     screen.type("w", "Asked:")
-    screen.type("2", "Number:")
+    screen.type("2", "Iban:")
     screen.type("n", "yes or no:")
     screen.type("no", "Nothing was sent.")
-    screen.type("1", "What to do:")
+    screen.clear()
     made.system.nodes["front"].kill()
-    screen.type("1", "Policy:")
-    screen.type("1", "What:")
-    screen.type("w", "Asked:")
-    screen.type("2", "Number:")
-    screen.type("n", "yes or no:")
+    screen.type("1", "What to do (")
+    screen.type("1", "Policy: 1")
+    screen.type("", "What: w")
+    screen.type("", "Asked: 2")
+    screen.type("3", "Iban: n")
+    screen.type("", "yes or no:")
+    assert "Asked: 23" in screen.shown()
     screen.type("yes", "The office is closed. Nothing was sent")
+    assert tasks_of(made.book("tasks", made.journal("front")))["claim#1"].is_open
+    screen.clear()
+    made.system.nodes["front"].start()
+    for then in ("What to do (", "Policy: 1", "What: w", "Asked: 23", "Iban: n", "yes or no:"):
+        screen.type("1" if then in ("What to do (", "Policy: 1") else "", then)
+    screen.type("yes", "Open claim: done for claim 1.")
+    assert tasks_of(made.book("tasks", made.journal("front")))["claim#1"].text.startswith('{1, "w", 23, "n"}')
     screen.tmux("send-keys", "C-d")
     screen.wait("ended 0")
-    assert tasks_of(made.book("tasks", made.journal("front")))["claim#1"].is_open

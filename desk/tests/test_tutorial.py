@@ -14,7 +14,7 @@ import pytest
 from conftest import FIRST_DESK, TOP
 from screens import Screen, screen  # noqa: F401
 from selenium.webdriver.common.by import By
-from systems import FAST, listens, until
+from systems import FAST, LONG, listens, until
 
 from aw_clerk import book
 from aw_forms.program import Sorry
@@ -67,7 +67,7 @@ def waited(command: str, process: subprocess.Popen[bytes]) -> None:
     elif command.endswith("&"):
         return
     else:
-        assert process.wait(60) == 0, command
+        assert process.wait(LONG) == 0, command
 
 
 def test_the_claim_by_clicks(chapter: str, typed: Path, screen: Screen) -> None:  # noqa: F811
@@ -76,7 +76,7 @@ def test_the_claim_by_clicks(chapter: str, typed: Path, screen: Screen) -> None:
     screen.enter(**{"Number of the case": "501"})
     screen.click("Begin claim")
     screen.click("Open claim")
-    screen.enter(Policy="88012", What="storm, roof", Asked="12000", Number="DK50 0040")
+    screen.enter(Policy="88012", What="storm, roof", Asked="12000", Iban="DK50 0040")
     screen.picture("desk-form")
     screen.click("Go on")
     screen.picture("desk-send")

@@ -191,7 +191,7 @@ class StartEvent(Line):
 
 @dataclass(slots=True)
 class ChooseEvent(Line):
-    """`choose NODE RULE {TERMS}`"""
+    """`choose TASK RULE {TERMS}`"""
 
     node: Token
     rule: Token

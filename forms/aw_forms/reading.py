@@ -247,7 +247,7 @@ def read_start_event(reader: LineReader) -> Line:
 
 
 def read_choose(reader: LineReader) -> Line:
-    """`choose NODE RULE`, and then nothing or `{TERMS}`"""
+    """`choose TASK RULE`, and then nothing or `{TERMS}`"""
     token = reader.peek()
     root = ("the first task of case 1 is `%s#1`" % token.text,) if token is not None and token.kind is Kind.NAME else ()
     node = reader.take(Kind.NODE, "the name of a task", *root)

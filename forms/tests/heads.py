@@ -5,6 +5,7 @@ Runs in a network of its own: a node listens at a port. The input is a list of [
 from __future__ import annotations
 
 import json
+import os
 import socket
 import struct
 import subprocess
@@ -14,6 +15,7 @@ import time
 from pathlib import Path
 
 PORT = 7400
+LONG = 30 * float(os.environ.get("PATIENCE", "1"))
 
 
 def head(program: str, role: tuple[int, str], text: bytes) -> bytes:
@@ -23,14 +25,14 @@ def head(program: str, role: tuple[int, str], text: bytes) -> bytes:
         assert node.stdin is not None
         node.stdin.write(text)
         node.stdin.close()
-        end = time.monotonic() + 30
+        end = time.monotonic() + LONG
         while node.poll() is None and time.monotonic() < end:
             try:
                 socket.create_connection(("127.0.0.1", PORT + role[0]), 5).close()
                 break
             except OSError:
                 time.sleep(0.005)
-        node.wait(30)
+        node.wait(LONG)
         data = (Path(folder) / "workspace.journal").read_bytes()
     return data[:11 + struct.unpack_from(">Q", data, 3)[0]]
 

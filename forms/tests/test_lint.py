@@ -13,7 +13,7 @@ CASES = [
     (REVIEW, "judgement(doubtful, a), judgement(doubtful, b)", "judgement(doubtfull, a), judgement(doubtful, b)", [("misspelt", "doubtfull")]),
     (REVIEW, "judgement(sound, a), judgement(sound, b)", "judgement(snoud, a), judgement(sound, b)", [("misspelt", "snoud")]),
     (TYPED, "decision(asked, destroyed)", "decision(asked, destroied)", [("misspelt", "destroied")]),
-    (TYPED, "rule file_away : payment(account(number), denied(why))<unpaid>\n", "", [("uncovered", "payment"), ("unused", "unpaid")]),
+    (TYPED, "rule file_away : payment(account(iban), denied(why))<unpaid>\n", "", [("uncovered", "payment"), ("unused", "unpaid")]),
     (TYPED, "rule pay_all : decision(asked, destroyed)<granted(asked)>\n", "", [("uncovered", "decision")]),
     (TYPED, "rule find_destroyed : survey(what)<destroyed>\n", "", [("never_built", "destroyed")]),
     (TYPED, "rule find_repairable {cost} : survey(what)<repairable(cost)>\nrule find_destroyed : survey(what)<destroyed>\n", "",

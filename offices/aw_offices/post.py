@@ -182,9 +182,9 @@ class Post:
         ways = {"sender": sender, "receiver": receiver}
         if kind in frames.REFUSED:
             said = frames.REFUSED[kind]
-            self.metrics.add("aw_post_letters_refused_total", **ways, reply=said.replace(" ", "_"))
             why = ", " + payload.decode("utf-8", "backslashreplace") if payload else ""
             self.log("%s -> %s: refused, %s%s: %s: %s" % (sender, receiver, said, why, self.offices.words(frames.message(letter)), letter.hex()))
+            self.metrics.add("aw_post_letters_refused_total", **ways, reply=said.replace(" ", "_"))
         elif kind in (frames.NEW, frames.AGAIN):
             self.metrics.add("aw_post_letters_carried_total", **ways)
             self.metrics.add("aw_post_letters_again_total", int(kind == frames.AGAIN), **ways)

@@ -279,13 +279,17 @@ class System:
         return wrong
 
     def carried(self) -> bool:
-        """Whether the post has noted every letter of every outbox as carried."""
+        """Whether the post has noted every letter of every outbox as carried, and no letter came of it meanwhile."""
+        counts = self.letters()
         noted = json.loads((self.folder / "places").read_bytes()) if (self.folder / "places").exists() else {}
         for role in self.offices.roles:
-            count = len(self.all_of(role, frames.PULL))
-            if any(noted.get("%s %s" % (role, other), [0])[0] != count for other in self.offices.roles if other != role):
+            if any(noted.get("%s %s" % (role, other), [0])[0] != counts[role] for other in self.offices.roles if other != role):
                 return False
-        return True
+        return self.letters() == counts
+
+    def letters(self) -> dict[str, int]:
+        """How many letters the outbox of each role holds."""
+        return {role: len(self.all_of(role, frames.PULL)) for role in self.offices.roles}
 
     def undelivered(self) -> dict[int, int]:
         """Pushes each letter of each outbox once more: how often each reply came."""

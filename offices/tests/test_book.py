@@ -134,6 +134,7 @@ def test_tasks_are_followed(clinic: System, tmp_path: Path) -> None:
         first = answer()
         assert first == book("tasks", file)[1]
         assert clinic.choose("choose visit#2 admit {\"Ben\", 8, glucose}") == "taken"
+        until(clinic.carried, "not every letter is carried")
         file.write_bytes(journal(clinic, "clinic").read_bytes())
         child.stdin.write(b"again\n")
         child.stdin.flush()
@@ -168,6 +169,7 @@ def test_a_journal_goes_on_from_an_older_copy(clinic: System, tmp_path: Path) ->
     old, new = tmp_path / "old", tmp_path / "new"
     old.write_bytes(file.read_bytes())
     assert clinic.choose("choose visit#2 admit {\"Ben\", 8, glucose}") == "taken"
+    until(clinic.carried, "not every letter is carried")
     new.write_bytes(file.read_bytes())
     (tmp_path / "set_back").write_bytes(old.read_bytes())
     (tmp_path / "cut").write_bytes(new.read_bytes()[:-1])

@@ -107,7 +107,7 @@ def test_a_dead_office_holds_up_its_own_letters_alone(make: Make) -> None:
     until(lambda: not system.unsettled(), "the letters did not come")
     until(lambda: system.number("aw_post_letters_waiting") == 0, "letters are told to wait")
     until(lambda: system.number("aw_post_oldest_letter_age_seconds") == 0, "a letter is told to be old")
-    assert "payments: answers again" in system.log()
+    until(lambda: "payments: answers again" in system.log(), "nothing is told of the office that answers again")
 
 
 def test_a_silent_office_holds_up_its_own_letters_alone(make: Make) -> None:
