@@ -1,0 +1,258 @@
+//! Why journals do not fit: of each that ends too early the event that is not allowed, causes first.
+ghost use Rattle.aw_grammar.specs.GrammarOf.{grammar_of};
+ghost use Rattle.aw_typed.specs.Typing.{IsMadeFor};
+ghost use Rattle.aw_book_drive.specs.Driving.{IsUsable};
+
+use crate::faults::{BookStop, FileFault};
+use crate::joining::JoinedFiles;
+use crate::joint::Said;
+use crate::offices::name_of;
+use crate::senders::{can_send, find_sending};
+use aw_base::{NameWriter, push_answer};
+use aw_book_drive::{Cause, Lane};
+use aw_book_read::push_event;
+use aw_disk::Pages;
+use aw_front::Opened;
+use aw_journal::NodeEvent;
+use aw_list::Text;
+use aw_msg::Message;
+use std::alloc::{AllocError, Global};
+
+/// The status of journals that do not fit.
+const REFUSED: u8 = 1;
+
+/// Who sends a message that did not come.
+#[derive(Clone, Copy, Debug, PartialEq, Eq)]
+pub enum Sender {
+    /// Nobody does.
+    Nobody,
+    /// The journal of this role does, with its event of this number.
+    Later { role: usize, number: u64 },
+}
+
+/// Why the journal of a role ends too early, and who sends the message that is next there.
+#[derive(Drop)]
+pub struct Blocked {
+    pub role: usize,
+    pub cause: Cause,
+    pub sender: Sender,
+}
+
+/// Who sends a message, as the journals say when each is done again alone.
+fn sender_of<P: Pages>(
+    alloc: Global,
+    opened: &Opened,
+    files: &[Option<usize>],
+    pages: &mut [P],
+    message: &Message,
+) -> Result<Sender, BookStop>
+    requires { IsMadeFor (grammar_of opened.now.accepted.grammar) opened.now.typed }
+{
+    for role in 0..files.len() {
+        let Some(file) = files[role] else {
+            continue;
+        };
+        if file >= pages.len() || !can_send(opened.accepted.grammar(), role as u16, message) {
+            continue;
+        }
+        if let Some(number) = find_sending(alloc, opened, &mut pages[file], role as u16, message)? {
+            return Ok(Sender::Later { role, number });
+        }
+    }
+    Ok(Sender::Nobody)
+}
+
+/// Who sends the message of a lane's next event, where it was not sent.
+fn sender_in<P: Pages>(
+    alloc: Global,
+    opened: &Opened,
+    files: &[Option<usize>],
+    pages: &mut [P],
+    lane: &Lane,
+    cause: &Cause,
+) -> Result<Sender, BookStop>
+    requires { IsMadeFor (grammar_of opened.now.accepted.grammar) opened.now.typed }
+{
+    match (cause, &lane.next) {
+        (Cause::Unsent, Some(NodeEvent::Got(message))) => {
+            sender_of(alloc, opened, files, pages, message)
+        }
+        _ => Ok(Sender::Nobody),
+    }
+}
+
+/// Adds why a choice or a message is not allowed, where that does not rest on who sends it.
+fn push_cause(
+    said: &mut Said,
+    names: &mut NameWriter<'_>,
+    cause: &Cause,
+) -> Result<(), AllocError> {
+    match cause {
+        Cause::Unfit => said.push(" does not fit the specification, or is of another role"),
+        Cause::Refused(answer) => {
+            let mut text = Text::new(said.allocator());
+            push_answer(&mut text, names, answer)?;
+            said.push(" is refused: ")?;
+            said.push_any(text.as_slice())
+        }
+        Cause::Elsewhere => said.push(" is for another role"),
+        Cause::NotNew(_) => said.push(" came before, or says otherwise than what was known"),
+        Cause::OtherLoad(_) => said.push(
+            " was sent with another load: it was altered on its way, or by a program without loads",
+        ),
+        Cause::Unsent => said.push(
+            ", and no journal sends it: it was forged, or the journal of its sender was set back",
+        ),
+    }
+}
+
+/// Adds the event that is next in a journal, as `clinic.journal: event 3, got tell visit#1:p1 = "Ada",`.
+fn push_next(
+    said: &mut Said,
+    names: &mut NameWriter<'_>,
+    name: &str,
+    lane: &Lane,
+) -> Result<(), AllocError> {
+    let mut line = Text::new(said.allocator());
+    if let Some(event) = &lane.next {
+        push_event(&mut line, names, event)?;
+    }
+    said.push(name)?;
+    said.push(": event ")?;
+    said.push_count(lane.count.saturating_add(1))?;
+    said.push(", ")?;
+    said.push_any(line.as_slice().trim_ascii_end())?;
+    said.push(",")
+}
+
+/// A sentence on why the journal of a role ends too early.
+fn say_one(
+    said: &mut Said,
+    names: &mut NameWriter<'_>,
+    files: &[Option<usize>],
+    words: &[&str],
+    lane: &Lane,
+    blocked: &Blocked,
+) -> Result<(), AllocError> {
+    push_next(said, names, name_of(files, words, blocked.role), lane)?;
+    match blocked.sender {
+        Sender::Nobody => push_cause(said, names, &blocked.cause)?,
+        Sender::Later { role, number } => {
+            said.push(" waits for event ")?;
+            said.push_count(number)?;
+            said.push(" of ")?;
+            said.push(name_of(files, words, role))?;
+            said.push(", which sends it")?;
+        }
+    }
+    said.end(REFUSED)
+}
+
+/// Whether a journal has fewer events in the world than were read at first.
+fn is_short(files: &JoinedFiles<'_>, role: usize) -> bool {
+    match (files.joined.lanes().get(role), files.counts.get(role)) {
+        (Some(lane), Some(count)) => lane.count < *count,
+        _ => false,
+    }
+}
+
+/// Why the journal of a role ends too early; nothing where the file got shorter.
+fn blocked_at<P: Pages>(
+    alloc: Global,
+    opened: &Opened,
+    files: &mut JoinedFiles<'_>,
+    pages: &mut [P],
+    role: usize,
+) -> Result<Option<Blocked>, BookStop>
+    requires usable { IsUsable files.old.joined.driver }
+    requires types { IsMadeFor (grammar_of opened.now.accepted.grammar) opened.now.typed }
+    ensures { IsUsable files.new.joined.driver }
+{
+    let Some(cause) = files.joined.cause(role)? else {
+        return Ok(None);
+    };
+    let Some(lane) = files.joined.lanes().get(role) else {
+        return Ok(None);
+    };
+    let sender = sender_in(alloc, opened, files.files.as_slice(), pages, lane, &cause)?;
+    Ok(Some(Blocked {
+        role,
+        cause,
+        sender,
+    }))
+}
+
+/// Whether these all wait for one another.
+fn is_circle(all: &[Blocked]) -> bool {
+    for blocked in all {
+        if blocked.sender == Sender::Nobody {
+            return false;
+        }
+    }
+    !all.is_empty()
+}
+
+/// Sentences on why journals end too early: of those whose message is sent later, or of the others.
+fn say_those(
+    opened: &Opened,
+    words: &[&str],
+    files: &JoinedFiles<'_>,
+    all: &[Blocked],
+    later: bool,
+    said: &mut Said,
+) -> Result<(), AllocError> {
+    let mut names = NameWriter::new(said.allocator(), opened.accepted.grammar());
+    for blocked in all {
+        if (blocked.sender != Sender::Nobody) == later {
+            if let Some(lane) = files.joined.lanes().get(blocked.role) {
+                say_one(said, &mut names, files.files.as_slice(), words, lane, blocked)?;
+            }
+        }
+    }
+    Ok(())
+}
+
+/// Sentences on why journals end too early, causes first, and that they wait for one another where there is no other cause.
+fn say_all(
+    opened: &Opened,
+    words: &[&str],
+    files: &JoinedFiles<'_>,
+    all: &[Blocked],
+    said: &mut Said,
+) -> Result<(), AllocError> {
+    say_those(opened, words, files, all, false, said)?;
+    say_those(opened, words, files, all, true, said)?;
+    if is_circle(all) {
+        said.push("the journals wait for one another in a circle: one of them was set back")?;
+        said.end(REFUSED)?;
+    }
+    Ok(())
+}
+
+/// Says of each journal that ends too early why its next event is not allowed. The files are read once more for that.
+pub fn say_blocked<P: Pages>(
+    alloc: Global,
+    opened: &Opened,
+    words: &[&str],
+    files: &mut JoinedFiles<'_>,
+    mut pages: Vec<P>,
+    said: &mut Said,
+) -> Result<(), BookStop>
+    requires usable { IsUsable files.old.joined.driver }
+    requires types { IsMadeFor (grammar_of opened.now.accepted.grammar) opened.now.typed }
+{
+    let mut all = Vec::new(alloc);
+    for role in 0..files.joined.lanes().len() {
+        if is_short(files, role) {
+            match blocked_at(alloc, opened, files, &mut pages, role)? {
+                Some(blocked) => all.push(blocked)?,
+                None => {
+                    let name = name_of(files.files.as_slice(), words, role);
+                    said.push_fault(alloc, name, &FileFault::Shorter)?;
+                }
+            }
+        }
+    }
+    say_all(opened, words, files, all.as_slice(), said)?;
+    Ok(())
+}
