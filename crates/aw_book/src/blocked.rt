@@ -156,6 +156,12 @@ fn is_short(files: &JoinedFiles<'_>, role: usize) -> bool {
     }
 }
 
+/// Adds a journal that ends too early.
+fn push_blocked(all: &mut Vec<Blocked>, blocked: Blocked) -> Result<(), AllocError> {
+    all.push(blocked)?;
+    Ok(())
+}
+
 /// Why the journal of a role ends too early; nothing where the file got shorter.
 fn blocked_at<P: Pages>(
     alloc: Global,
@@ -230,7 +236,7 @@ fn say_all(
 }
 
 /// Says of each journal that ends too early why its next event is not allowed. The files are read once more for that.
-pub fn say_blocked<P: Pages>(
+pub fn say_blocked<P: Pages + Drop>(
     alloc: Global,
     opened: &Opened,
     words: &[&str],
@@ -245,7 +251,7 @@ pub fn say_blocked<P: Pages>(
     for role in 0..files.joined.lanes().len() {
         if is_short(files, role) {
             match blocked_at(alloc, opened, files, &mut pages, role)? {
-                Some(blocked) => all.push(blocked)?,
+                Some(blocked) => push_blocked(&mut all, blocked)?,
                 None => {
                     let name = name_of(files.files.as_slice(), words, role);
                     said.push_fault(alloc, name, &FileFault::Shorter)?;

@@ -31,7 +31,7 @@ pub struct Offices<P> {
     pub files: Vec<Option<usize>>,
 }
 
-impl<P> Offices<P> {
+impl<P: Drop> Offices<P> {
     /// No role has a journal.
     fn new(
         alloc: Global,
@@ -127,7 +127,7 @@ struct Journal<P> {
 }
 
 /// Puts a journal in its role's place, where its head is that of the specification.
-fn put_journal<P>(
+fn put_journal<P: Drop>(
     offices: &mut Offices<P>,
     opened: &Opened,
     names: &[&str],
@@ -184,7 +184,7 @@ fn say_missing<P>(
 }
 
 /// Opens the journals of all roles. Where one cannot be opened, or a role has none or two, that is said.
-pub fn open_offices<P: Pages>(
+pub fn open_offices<P: Pages + Drop>(
     alloc: Global,
     opened: &Opened,
     names: &[&str],
@@ -233,6 +233,12 @@ fn count_events<S: EventSource>(alloc: Global, source: &mut S) -> Result<u64, So
     Ok(u64::MAX)
 }
 
+/// Adds the count of one journal more.
+fn push_count(counts: &mut Vec<u64>, count: u64) -> Result<(), AllocError> {
+    counts.push(count)?;
+    Ok(())
+}
+
 /// How many events stand in the journal of each role. Where one is not read to its end, that is said.
 pub fn count_all<P: Pages + Drop>(
     alloc: Global,
@@ -243,11 +249,11 @@ pub fn count_all<P: Pages + Drop>(
     let mut counts = Vec::new(alloc);
     for role in 0..offices.sources.len() {
         match count_events(alloc, &mut offices.sources[role]) {
-            Ok(count) => counts.push(count)?,
+            Ok(count) => push_count(&mut counts, count)?,
             Err(SourceFault::Unread) => {
                 let name = name_of(offices.files.as_slice(), names, role);
                 said.push_fault(alloc, name, &FileFault::Unread)?;
-                counts.push(0)?;
+                push_count(&mut counts, 0)?;
             }
             Err(SourceFault::NoMemory) => return Err(BookStop::NoMemory),
         }

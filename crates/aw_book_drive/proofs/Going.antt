@@ -7,7 +7,7 @@ use Rattle.aw_journal.specs.EventView.{event_of}
 use Rattle.aw_journal.specs.declared.payload.NodeEvent.{NodeEvent}
 use Rattle.aw_law_journals.specs.Journals.{Fits}
 use Rattle.aw_law_sites.specs.Worlds.{World, Move, step, world_after}
-use Rattle.aw_law_worlds.proofs.Places.{length-set}
+use Rattle.aw_list.proofs.Everyday.{length-slice_set as length-set}
 use Rattle.aw_term.specs.Rules.{Grammar, get}
 use Rattle.aw_typed.specs.Types.{Types}
 use Rattle.aw_world.specs.declared.workspace.Workspace.{Ghosts}
