@@ -7,12 +7,13 @@ use crate::faults::{BookStop, FileFault};
 use crate::joining::JoinedFiles;
 use crate::joint::Said;
 use crate::offices::name_of;
-use crate::senders::{can_send, find_sending};
-use aw_base::{NameWriter, push_answer};
-use aw_book_drive::{Cause, Lane};
+use crate::senders::find_sending;
+use aw_base::{NameWriter, push_answer, role_name};
+use aw_book_drive::{Cause, Lane, sender_of};
 use aw_book_read::push_event;
 use aw_disk::Pages;
 use aw_front::Opened;
+use aw_grammar::Grammar;
 use aw_journal::NodeEvent;
 use aw_list::Text;
 use aw_msg::Message;
@@ -21,11 +22,13 @@ use std::alloc::{AllocError, Global};
 /// The status of journals that do not fit.
 const REFUSED: u8 = 1;
 
-/// Who sends a message that did not come.
+/// Who sends the message of an event that is not allowed.
 #[derive(Clone, Copy, Debug, PartialEq, Eq)]
 pub enum Sender {
-    /// Nobody does.
-    Nobody,
+    /// It was sent, or the event is a choice.
+    NotAsked,
+    /// It comes from this role, whose journal does not send it.
+    Never { role: usize },
     /// The journal of this role does, with its event of this number.
     Later { role: usize, number: u64 },
 }
@@ -38,8 +41,8 @@ pub struct Blocked {
     pub sender: Sender,
 }
 
-/// Who sends a message, as the journals say when each is done again alone.
-fn sender_of<P: Pages>(
+/// Who sends a message, as its sender's journal says when it is done again alone.
+fn find_sender<P: Pages>(
     alloc: Global,
     opened: &Opened,
     files: &[Option<usize>],
@@ -48,18 +51,19 @@ fn sender_of<P: Pages>(
 ) -> Result<Sender, BookStop>
     requires { IsMadeFor (grammar_of opened.now.accepted.grammar) opened.now.typed }
 {
-    for role in 0..files.len() {
-        let Some(file) = files[role] else {
-            continue;
-        };
-        if file >= pages.len() || !can_send(opened.accepted.grammar(), role as u16, message) {
-            continue;
-        }
-        if let Some(number) = find_sending(alloc, opened, &mut pages[file], role as u16, message)? {
-            return Ok(Sender::Later { role, number });
-        }
+    let from = sender_of(alloc, opened.accepted.grammar(), message)?;
+    let role = usize::from(from);
+    let file = match files.get(role) {
+        Some(Some(file)) => *file,
+        _ => return Ok(Sender::Never { role }),
+    };
+    if file >= pages.len() {
+        return Ok(Sender::Never { role });
     }
-    Ok(Sender::Nobody)
+    match find_sending(alloc, opened, &mut pages[file], from, message)? {
+        Some(number) => Ok(Sender::Later { role, number }),
+        None => Ok(Sender::Never { role }),
+    }
 }
 
 /// Who sends the message of a lane's next event, where it was not sent.
@@ -75,9 +79,9 @@ fn sender_in<P: Pages>(
 {
     match (cause, &lane.next) {
         (Cause::Unsent, Some(NodeEvent::Got(message))) => {
-            sender_of(alloc, opened, files, pages, message)
+            find_sender(alloc, opened, files, pages, message)
         }
-        _ => Ok(Sender::Nobody),
+        _ => Ok(Sender::NotAsked),
     }
 }
 
@@ -100,13 +104,11 @@ fn push_cause(
         Cause::OtherLoad(_) => said.push(
             " was sent with another load: it was altered on its way, or by a program without loads",
         ),
-        Cause::Unsent => said.push(
-            ", and no journal sends it: it was forged, or the journal of its sender was set back",
-        ),
+        Cause::Unsent => said.push(" was not sent"),
     }
 }
 
-/// Adds the event that is next in a journal, as `clinic.journal: event 3, got tell visit#1:p1 = "Ada",`.
+/// Adds the event that is next in a journal, as `clinic.journal: event 3 (got tell visit#1:p1 = "Ada")`.
 fn push_next(
     said: &mut Said,
     names: &mut NameWriter<'_>,
@@ -120,9 +122,49 @@ fn push_next(
     said.push(name)?;
     said.push(": event ")?;
     said.push_count(lane.count.saturating_add(1))?;
-    said.push(", ")?;
+    said.push(" (")?;
     said.push_any(line.as_slice().trim_ascii_end())?;
-    said.push(",")
+    said.push(")")
+}
+
+/// Adds that the journal of a role does not send the message that came from there.
+fn push_never(
+    said: &mut Said,
+    grammar: &Grammar,
+    files: &[Option<usize>],
+    words: &[&str],
+    role: usize,
+) -> Result<(), AllocError> {
+    let from = role_name(grammar, role as u16);
+    said.push(" came from ")?;
+    said.push_any(from)?;
+    match files.get(role) {
+        Some(Some(_)) => {
+            said.push(", and no event of ")?;
+            said.push(name_of(files, words, role))?;
+            said.push(" sends it: it was forged, or that journal was set back")
+        }
+        _ => {
+            said.push(", of which no journal is given: it was forged, or ")?;
+            said.push_any(from)?;
+            said.push(" did serve")
+        }
+    }
+}
+
+/// Adds that the journal of a role sends the message with a later event.
+fn push_later(
+    said: &mut Said,
+    files: &[Option<usize>],
+    words: &[&str],
+    role: usize,
+    number: u64,
+) -> Result<(), AllocError> {
+    said.push(" waits for event ")?;
+    said.push_count(number)?;
+    said.push(" of ")?;
+    said.push(name_of(files, words, role))?;
+    said.push(", which sends it")
 }
 
 /// A sentence on why the journal of a role ends too early.
@@ -136,14 +178,9 @@ fn say_one(
 ) -> Result<(), AllocError> {
     push_next(said, names, name_of(files, words, blocked.role), lane)?;
     match blocked.sender {
-        Sender::Nobody => push_cause(said, names, &blocked.cause)?,
-        Sender::Later { role, number } => {
-            said.push(" waits for event ")?;
-            said.push_count(number)?;
-            said.push(" of ")?;
-            said.push(name_of(files, words, role))?;
-            said.push(", which sends it")?;
-        }
+        Sender::NotAsked => push_cause(said, names, &blocked.cause)?,
+        Sender::Never { role } => push_never(said, names.grammar(), files, words, role)?,
+        Sender::Later { role, number } => push_later(said, files, words, role, number)?,
     }
     said.end(REFUSED)
 }
@@ -188,10 +225,15 @@ fn blocked_at<P: Pages>(
     }))
 }
 
+/// Whether the message of this event is sent later.
+fn is_later(blocked: &Blocked) -> bool {
+    matches!(blocked.sender, Sender::Later { .. })
+}
+
 /// Whether these all wait for one another.
 fn is_circle(all: &[Blocked]) -> bool {
     for blocked in all {
-        if blocked.sender == Sender::Nobody {
+        if !is_later(blocked) {
             return false;
         }
     }
@@ -209,7 +251,7 @@ fn say_those(
 ) -> Result<(), AllocError> {
     let mut names = NameWriter::new(said.allocator(), opened.accepted.grammar());
     for blocked in all {
-        if (blocked.sender != Sender::Nobody) == later {
+        if is_later(blocked) == later {
             if let Some(lane) = files.joined.lanes().get(blocked.role) {
                 say_one(said, &mut names, files.files.as_slice(), words, lane, blocked)?;
             }

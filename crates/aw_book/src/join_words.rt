@@ -22,6 +22,16 @@ fn without<'a>(alloc: Global) -> Arg<'a> {
         .action(ArgAction::Append)
 }
 
+/// The older copies of the journals.
+fn first<'a>(alloc: Global) -> Arg<'a> {
+    Arg::new(alloc, "first")
+        .long("first")
+        .value_name("OLD")
+        .help("Older copies, one for each journal: what they have must fit, and what came since as far as it does. Behind them: --")
+        .action(ArgAction::Append)
+        .num_args(1..)
+}
+
 /// A word that is there or not.
 fn flag<'a>(alloc: Global, name: &'static str, help: &'static str) -> Arg<'a> {
     Arg::new(alloc, name)
@@ -48,6 +58,7 @@ pub fn join_command<'a>(alloc: Global) -> Result<Command<'a>, AllocError> {
         .arg(flag(alloc, "reach", "Write what fits where they do not fit whole"))?
         .arg(case(alloc))?
         .arg(without(alloc))?
+        .arg(first(alloc))?
         .arg(files(alloc))
 }
 
@@ -59,6 +70,7 @@ pub fn cases_command<'a>(alloc: Global) -> Result<Command<'a>, AllocError> {
         .arg(flag(alloc, "reach", "Write what fits where they do not fit whole"))?
         .arg(case(alloc))?
         .arg(without(alloc))?
+        .arg(first(alloc))?
         .arg(files(alloc))
 }
 
@@ -69,6 +81,21 @@ fn case_of(word: &str) -> Option<(&str, u64)> {
         Some(number) => Some((sort, number)),
         None => None,
     }
+}
+
+/// All words of a name.
+fn all_of<'a>(
+    alloc: Global,
+    matches: &ArgMatches<'a>,
+    name: &str,
+) -> Result<Vec<&'a str>, AllocError> {
+    let mut all = Vec::new(alloc);
+    if let Some(words) = matches.get_strs(name) {
+        for word in words {
+            all.push(*word)?;
+        }
+    }
+    Ok(all)
 }
 
 /// What the words ask for; nothing where the word that should name a case names none.
@@ -84,12 +111,8 @@ pub fn joint_words<'a>(
             None => return Ok(None),
         },
     };
-    let mut without = Vec::new(alloc);
-    if let Some(roles) = matches.get_strs("without") {
-        for role in roles {
-            without.push(*role)?;
-        }
-    }
+    let without = all_of(alloc, matches, "without")?;
+    let older = all_of(alloc, matches, "first")?;
     let written = if name == "join" {
         Written::Text {
             settled: matches.get_flag("settled"),
@@ -103,6 +126,7 @@ pub fn joint_words<'a>(
         written,
         case,
         without,
+        older,
         reach: matches.get_flag("reach"),
     }))
 }

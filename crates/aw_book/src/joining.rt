@@ -5,10 +5,13 @@ ghost use Rattle.aw_typed.specs.Typing.{IsMadeFor};
 ghost use Rattle.aw_book_drive.specs.Driving.{IsUsable};
 
 use crate::blocked::say_blocked;
+use crate::copies::{Copies, say_copies};
 use crate::faults::{BookStop, FileFault};
 use crate::open_lines::open_lines;
 use crate::joint::{JointAsked, Said, Written};
-use crate::offices::{Choosing, Offices, choosing_of, count_all, name_of, open_offices};
+use crate::offices::{
+    Choosing, Offices, choosing_of, count_all, name_of, open_offices, say_missing, say_no_copies,
+};
 use crate::reading::{Book, open_book};
 use aw_book_drive::{JoinFault, Joined, join};
 use aw_book_text::joined_text;
@@ -29,6 +32,15 @@ pub struct Readings<P> {
     pub first: Vec<P>,
     pub again: Vec<P>,
     pub third: Vec<P>,
+    pub copies: Copies<P>,
+}
+
+/// The files of journals, to be read once and again, and to be compared with older copies.
+#[derive(Drop)]
+struct TwoReadings<P> {
+    first: Vec<P>,
+    again: Vec<P>,
+    copies: Copies<P>,
 }
 
 /// Journals that were joined, and what is known of their files.
@@ -93,30 +105,53 @@ fn write_cases<K: Sink>(
     }
 }
 
-/// Opens the journals, and joins them as far as they fit; nothing where something is wrong, which is said.
-fn join_files<'g, P: Pages + Drop>(
-    opened: &'g Opened,
+/// What the first readings of journals told: which file is each role's, and how many events stand there.
+#[derive(Drop)]
+struct FirstReading {
+    files: Vec<Option<usize>>,
+    counts: Vec<u64>,
+}
+
+/// Reads the journals, or their older copies, for the first time; nothing where something is wrong, which is said.
+fn read_first<P: Pages + Drop>(
+    opened: &Opened,
     names: &[&str],
     first: Vec<P>,
-    again: Vec<P>,
+    asked: &JointAsked<'_>,
     choosing: &Choosing,
+    said: &mut Said,
+) -> Result<Option<FirstReading>, BookStop> {
+    let alloc = said.allocator();
+    let older = asked.older.as_slice();
+    let names = if older.is_empty() { names } else { older };
+    let mut before = open_offices(alloc, opened, names, first, choosing, said)?;
+    let grammar = opened.accepted.grammar();
+    if older.is_empty() {
+        say_missing(before.files.as_slice(), grammar, choosing, said)?;
+    } else {
+        say_no_copies(before.files.as_slice(), grammar, choosing, said)?;
+    }
+    if said.status > 0 {
+        return Ok(None);
+    }
+    let counts = count_all(alloc, names, &mut before, said)?;
+    let Offices { files, .. } = before;
+    Ok(Some(FirstReading { files, counts }))
+}
+
+/// Joins the journals as they are read again; nothing where something is wrong, which is said.
+fn join_again<'g, P: Pages + Drop>(
+    opened: &'g Opened,
+    names: &[&str],
+    offices: Offices<P>,
+    counts: Vec<u64>,
     said: &mut Said,
 ) -> Result<Option<JoinedFiles<'g>>, BookStop>
     requires { IsMadeFor (grammar_of opened.now.accepted.grammar) opened.now.typed }
     ensures { IfOk result (λ found. IfSome found (λ files. IsUsable files.joined.driver)) }
 {
     let alloc = said.allocator();
-    let mut before = open_offices(alloc, opened, names, first, choosing, said)?;
-    if said.status > 0 {
-        return Ok(None);
-    }
-    let counts = count_all(alloc, names, &mut before, said)?;
-    drop(before);
-    let Offices { mut sources, files } =
-        open_offices(alloc, opened, names, again, choosing, said)?;
-    if said.status > 0 {
-        return Ok(None);
-    }
+    let Offices { mut sources, files } = offices;
     match join(alloc, &opened.accepted, &opened.typed, &mut sources) {
         Ok(joined) => Ok(Some(JoinedFiles {
             joined,
@@ -130,6 +165,38 @@ fn join_files<'g, P: Pages + Drop>(
         }
         Err(JoinFault::NoMemory) => Err(BookStop::NoMemory),
     }
+}
+
+/// Reads the journals twice, and joins them as far as they fit; nothing where something is wrong, which is said.
+fn join_files<'g, P: Pages + Drop>(
+    opened: &'g Opened,
+    names: &[&str],
+    readings: TwoReadings<P>,
+    asked: &JointAsked<'_>,
+    choosing: &Choosing,
+    said: &mut Said,
+) -> Result<Option<JoinedFiles<'g>>, BookStop>
+    requires { IsMadeFor (grammar_of opened.now.accepted.grammar) opened.now.typed }
+    ensures { IfOk result (λ found. IfSome found (λ files. IsUsable files.joined.driver)) }
+{
+    let alloc = said.allocator();
+    let TwoReadings {
+        first,
+        again,
+        copies,
+    } = readings;
+    let Some(before) = read_first(opened, names, first, asked, choosing, said)? else {
+        return Ok(None);
+    };
+    let offices = open_offices(alloc, opened, names, again, choosing, said)?;
+    let grammar = opened.accepted.grammar();
+    let files = offices.files.as_slice();
+    say_missing(files, grammar, choosing, said)?;
+    say_copies(alloc, names, before.files.as_slice(), files, copies, said)?;
+    if said.status > 0 {
+        return Ok(None);
+    }
+    join_again(opened, names, offices, before.counts, said)
 }
 
 /// Joins the journals of an opened specification, and writes what is asked for.
@@ -151,9 +218,15 @@ fn tell_opened<P: Pages + Drop, K: Sink>(
         first,
         again,
         third,
+        copies,
         ..
     } = readings;
-    let Some(mut files) = join_files(opened, names, first, again, &choosing, said)? else {
+    let two = TwoReadings {
+        first,
+        again,
+        copies,
+    };
+    let Some(mut files) = join_files(opened, names, two, asked, &choosing, said)? else {
         return Ok(());
     };
     say_blocked(alloc, opened, names, &mut files, third, said)?;

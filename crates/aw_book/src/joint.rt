@@ -25,6 +25,8 @@ pub struct JointAsked<'a> {
     pub case: Option<(&'a str, u64)>,
     /// Roles that have no journal, where nothing happened.
     pub without: Vec<&'a str>,
+    /// Older copies of the journals, which count as their first readings; none where the files themselves are read twice.
+    pub older: Vec<&'a str>,
     /// As far as they fit, where they do not fit whole.
     pub reach: bool,
 }

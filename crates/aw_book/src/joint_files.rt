@@ -1,4 +1,5 @@
 //! The journals of all roles, by the names of their files.
+use crate::copies::Copies;
 use crate::faults::BookStop;
 use crate::join_words::joint_words;
 use crate::joining::{Readings, tell_joined};
@@ -29,15 +30,20 @@ fn pages_of<'a, R: Files<File = File> + AllocGlobal>(
 /// Joins the journals in these files, and writes what is asked for.
 fn join_named<'a, R: Files<File = File> + Print + AllocGlobal>(
     rt: &'a R,
-    asked: &JointAsked<'_>,
+    asked: &JointAsked<'a>,
     names: &[&'a str],
 ) -> Result<Said, BookStop> {
-    let head = FilePages::new(rt, names.first().copied().unwrap_or(""));
+    let older = asked.older.as_slice();
+    let first = if older.is_empty() { names } else { older };
     let readings = Readings {
-        head,
-        first: pages_of(rt, names)?,
+        head: FilePages::new(rt, names.first().copied().unwrap_or("")),
+        first: pages_of(rt, first)?,
         again: pages_of(rt, names)?,
         third: pages_of(rt, names)?,
+        copies: Copies {
+            older: pages_of(rt, older)?,
+            newer: pages_of(rt, names)?,
+        },
     };
     tell_joined(rt.alloc(), names, readings, asked, &mut StdSink::new(rt))
 }

@@ -4,6 +4,7 @@
 mod asked;
 mod blocked;
 mod checks;
+mod copies;
 mod events;
 mod faults;
 mod following;

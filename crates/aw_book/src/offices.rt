@@ -140,8 +140,7 @@ fn put_journal<P: Drop>(
     let at = usize::from(role);
     if !is_same_text(&opened.text, &text) {
         said.push(name)?;
-        said.push(": its specification is another one than that of ")?;
-        said.push(names.first().copied().unwrap_or(""))?;
+        said.push(": its specification is another one than that of the first journal")?;
         return said.end(REFUSED);
     }
     if at >= offices.sources.len() || at >= offices.files.len() {
@@ -157,23 +156,23 @@ fn put_journal<P: Drop>(
 }
 
 /// Says which roles have no journal, and were not named as ones without.
-fn say_missing<P>(
-    offices: &Offices<P>,
+pub fn say_missing(
+    files: &[Option<usize>],
     grammar: &Grammar,
     choosing: &Choosing,
     said: &mut Said,
 ) -> Result<(), AllocError> {
-    for role in 0..offices.files.len() {
+    for role in 0..files.len() {
         let named = choosing.without.contains(&(role as u16));
         let name = role_name(grammar, role as u16);
-        if offices.files[role].is_none() && !named {
+        if files[role].is_none() && !named {
             said.push("no journal of ")?;
             said.push_any(name)?;
             said.push(" is given: if it never served, say so by --without ")?;
             said.push_any(name)?;
             said.end(REFUSED)?;
         }
-        if offices.files[role].is_some() && named {
+        if files[role].is_some() && named {
             said.push("a journal of ")?;
             said.push_any(name)?;
             said.push(" is given, which --without names")?;
@@ -183,7 +182,25 @@ fn say_missing<P>(
     Ok(())
 }
 
-/// Opens the journals of all roles. Where one cannot be opened, or a role has none or two, that is said.
+/// Says of which roles no older copy is given, and were not named as ones without.
+pub fn say_no_copies(
+    files: &[Option<usize>],
+    grammar: &Grammar,
+    choosing: &Choosing,
+    said: &mut Said,
+) -> Result<(), AllocError> {
+    for role in 0..files.len() {
+        if files[role].is_none() && !choosing.without.contains(&(role as u16)) {
+            said.push("no older copy of the journal of ")?;
+            said.push_any(role_name(grammar, role as u16))?;
+            said.push(" is given behind --first")?;
+            said.end(REFUSED)?;
+        }
+    }
+    Ok(())
+}
+
+/// Opens journals, each for its role. Where one cannot be opened, or a role has two, that is said.
 pub fn open_offices<P: Pages + Drop>(
     alloc: Global,
     opened: &Opened,
@@ -192,8 +209,8 @@ pub fn open_offices<P: Pages + Drop>(
     choosing: &Choosing,
     said: &mut Said,
 ) -> Result<Offices<P>, BookStop> {
-    let grammar = opened.accepted.grammar();
-    let mut offices = Offices::new(alloc, grammar.roles.len(), choosing.case)?;
+    let roles = opened.accepted.grammar().roles.len();
+    let mut offices = Offices::new(alloc, roles, choosing.case)?;
     let mut file = 0usize;
     for mut pages in files {
         match Records::begin(alloc, &mut pages) {
@@ -219,7 +236,6 @@ pub fn open_offices<P: Pages + Drop>(
         }
         file = file.saturating_add(1);
     }
-    say_missing(&offices, grammar, choosing, said)?;
     Ok(offices)
 }
 

@@ -6,25 +6,14 @@ ghost use Rattle.aw_journal.specs.EventView.{event_of};
 ghost use Rattle.aw_typed.specs.Typing.{IsMadeFor};
 
 use crate::faults::BookStop;
-use aw_base::home_of;
 use aw_cells::CellFacts;
 use aw_disk::Pages;
 use aw_front::Opened;
-use aw_grammar::Grammar;
 use aw_journal::{Begun, NodeEvent, ReadFault, Records};
 use aw_kept_node::redo;
-use aw_msg::{Message, MsgKind};
+use aw_msg::Message;
 use aw_site::Site;
 use std::alloc::Global;
-
-/// Whether the workspace of a role can be the one that sends a message.
-pub fn can_send(grammar: &Grammar, role: u16, message: &Message) -> bool {
-    match message.kind.get() {
-        MsgKind::Call { .. } => role != message.to,
-        MsgKind::Ask { from, .. } => *from == role,
-        MsgKind::Tell { equation, .. } => home_of(grammar, &equation.left.node) == Some(role),
-    }
-}
 
 /// Whether a message stands among these from a place on.
 fn has_from(messages: &[Message], from: usize, message: &Message) -> bool {

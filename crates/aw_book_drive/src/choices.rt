@@ -13,7 +13,7 @@ use aw_name::{Node, Trail};
 use std::alloc::Global;
 
 /// The role of a node, and 0 where its name is not valid.
-fn role_at(g: &Grammar, node: &Node) -> u16
+pub(crate) fn role_at(g: &Grammar, node: &Node) -> u16
     ensures { result ≡ home (grammar_of g.now) node.now }
 {
     match home_of(g, node) {

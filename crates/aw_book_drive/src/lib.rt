@@ -13,8 +13,8 @@ mod lane_tries;
 pub mod lanes;
 mod messages;
 pub mod selecting;
+pub mod senders;
 pub mod source;
-
 
 pub use causes::Cause;
 pub use fault::JoinFault;
@@ -22,4 +22,5 @@ pub use joining::{Joined, join};
 pub use journal_source::JournalSource;
 pub use lanes::Lane;
 pub use selecting::{OneCase, Selected};
+pub use senders::sender_of;
 pub use source::{EventSource, SourceFault};
