@@ -1,6 +1,5 @@
 pub mod AlikeArguments
 pub mod ByteFronts
-pub mod ChoiceFronts
 pub mod ChoiceLines
 pub mod KnownChoice
 pub mod KnownGrounds

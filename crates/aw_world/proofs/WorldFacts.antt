@@ -50,7 +50,6 @@ module _ (words : Words) (g : R.Grammar) (accepted : IsAccepted words g) (loads 
 
 -- ---- the same of the program's world
 
-
 module _ {W : Type 0} (f : Ghosts W) (a : Accepted) (loads : Bool) (ws : List W) (ms : List Message) (bs : List Bool) (ts : List Choice) (h : ∥ IsReached f a.grammar loads ws ms bs ts ∥₁) where
   abbrev d : Grammar
   d = a.grammar

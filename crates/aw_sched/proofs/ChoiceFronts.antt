@@ -1,3 +1,0 @@
--- Names of nodes at the front of bytes.
-
-}
