@@ -19,7 +19,7 @@ use Rattle.aw_book_drive.proofs.Nearly.{step-sends}
 module _ {W : Type 0} (f : Ghosts W) where
   -- the messages of a world that is nearly this one
   pub near-messages : (w : World W f) (v : V.World) (g : Grammar) → grammar_of w.accepted.now.grammar ≡ g → Nearly f w v → v.messages ≡ map (message_of g) w.messages
-  near-messages w v g same near = near.1.messages ∙ ap (λ g. map (message_of g) w.messages) same
+  near-messages w v g same near = sym (ap (λ (u : V.World). u.messages) near.1) ∙ ap (λ g. map (message_of g) w.messages) same
 
   -- all that is known stays where the world is nearly the same
   pub drives-still : (x y : Driver W f) (v : V.World) (moves : List V.Move) → Drives f x v moves → Nearly f y.world v → y.index ≡ x.index → y.moves.items ≡ x.moves.items → Drives f y v moves

@@ -21,3 +21,4 @@ pub mod Opening
 pub mod Settled
 pub mod WhyNot
 pub mod PassedOver
+pub mod FrontSteps

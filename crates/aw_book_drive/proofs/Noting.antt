@@ -75,9 +75,9 @@ pub covers-few : (x : Index) (front more all : List Message) → all ≡ front +
 covers-few x front more all e c = let n = c.count in let m = length-append front more in let k = ap length e in omega (arith, n, m, k)
 
 -- of none of some numbers it holds, nor of one more
-pub none-more : (P : ℕ → Type 0) (xs : List ℕ) (i x : ℕ) → i < length xs → x ≡ get_or xs i x → ((k : ℕ) → Member k (take i xs) → P k → ⊥) → (P x → ⊥) → (k : ℕ) → Member k (take (i + 1) xs) → P k → ⊥
-none-more P xs i x l is none here k m p =
-    elim (member_split k (take i xs) (x ∷ []) (subst (λ (ys : List ℕ). Member k ys) (take_more xs i x l ∙ ap (λ (y : ℕ). take i xs ++ y ∷ []) (sym is)) m)) [
+pub none-more : (P : ℕ → Type 0) (xs : List ℕ) (i d : ℕ) → i < length xs → ((k : ℕ) → Member k (take i xs) → P k → ⊥) → (P (get_or xs i d) → ⊥) → (k : ℕ) → Member k (take (i + 1) xs) → P k → ⊥
+none-more P xs i d l none here k m p =
+    elim (member_split k (take i xs) (get_or xs i d ∷ []) (subst (λ (ys : List ℕ). Member k ys) (take_more xs i d l) m)) [
       | inl before ↦ none k before p
       | inr (inl same) ↦ here (subst P same p)
       | inr (inr bad) ↦ elim bad [ ]

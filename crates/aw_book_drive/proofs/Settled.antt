@@ -25,7 +25,7 @@ prints-cases f old new v before after r same settles near prints c e =
     let g = grammar_of old.accepted.now.grammar in
     let (flags, s) = near in
     let w : V.World = record v { delivered = flags } in
-    let taken : v.taken ≡ map choice_of new.taken.items = sym (settle_taken g (bound_of g w.taken) w) ∙ (settles w s).taken in
+    let taken : v.taken ≡ map choice_of new.taken.items = sym (settle_taken g (bound_of g w.taken) w) ∙ sym (ap (λ (u : V.World). u.taken) (settles w s)) in
     let there : undivided (grammar_of new.accepted.now.grammar) [] (map choice_of new.taken.items) ≡ Some c =
     ap (λ (a : Accepted). undivided (grammar_of a.grammar) [] (map choice_of new.taken.items)) same ∙ (ap (undivided g []) (sym taken) ∙ e) in
     subst (λ (a : Accepted). Prints (artifact_text (words_of a.grammar) c) before after r) same (prints c there)

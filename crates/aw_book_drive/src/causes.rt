@@ -74,7 +74,9 @@ fn are_alike(a: &Message, b: &Message) -> bool
     match (a.kind.get(), b.kind.get()) {
         (
             MsgKind::Call {
-                node, inherited, ..
+                node,
+                inherited,
+                ..
             },
             MsgKind::Call {
                 node: other,
@@ -92,7 +94,8 @@ fn are_alike(a: &Message, b: &Message) -> bool
         (
             MsgKind::Tell { equation, .. },
             MsgKind::Tell {
-                equation: other, ..
+                equation: other,
+                ..
             },
         ) => are_same_tells(equation, other),
         _ => false,
@@ -190,10 +193,10 @@ impl<'g, W: Workspace> Joined<'g, W> {
             (lane : LaneValue) → slice_get self.old.lanes.items role ≡ Some lane → NoneFits t g v role lane →
             IfOk result (λ cause. TellsCause t g v self.old.driver.world.messages role lane cause × Drives ⟦<W as Workspace>⟧ self.new.driver v moves) }
     {
-        let Some(lane) = self.lanes.as_slice().get(role) else {
+        if role >= self.lanes.len() {
             return Ok(None);
-        };
-        match &lane.next {
+        }
+        match &self.lanes[role].next {
             Some(event) => Ok(Some(cause_of(&mut self.driver, role, event)?)),
             None => Ok(None),
         }

@@ -46,7 +46,11 @@ fn was_new(reply: &Reply) -> bool
 }
 
 /// Whether a choice fits the grammar and the types, and is made at this role.
-pub(crate) fn may_be_asked<W: Workspace>(driver: &Driver<'_, W>, role: usize, choice: &Choice) -> bool
+pub(crate) fn may_be_asked<W: Workspace>(
+    driver: &Driver<'_, W>,
+    role: usize,
+    choice: &Choice,
+) -> bool
     requires { IsUsable driver.now }
     ensures { result ≡ may_be_asked (types_in driver.now) (grammar_in driver.now) role (choice_of choice.now) }
 {
@@ -57,7 +61,10 @@ pub(crate) fn may_be_asked<W: Workspace>(driver: &Driver<'_, W>, role: usize, ch
 }
 
 /// The number of a message, where it was sent.
-pub(crate) fn find<W: Workspace>(driver: &Driver<'_, W>, message: &Message) -> Result<Option<u64>, AllocError>
+pub(crate) fn find<W: Workspace>(
+    driver: &Driver<'_, W>,
+    message: &Message,
+) -> Result<Option<u64>, AllocError>
     ensures found { IfOk result (λ o. IfSome o (IsAt driver.now.world.messages message.now)) }
     ensures none { (v : V.World) (moves : List V.Move) → Drives ⟦<W as Workspace>⟧ driver.now v moves →
         IfOk result (λ o. o ≡ None → (k : ℕ) → IsAt driver.now.world.messages message.now k → ⊥) }

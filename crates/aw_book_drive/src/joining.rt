@@ -13,9 +13,9 @@ ghost use Rattle.aw_book_drive.specs.Joins.{Stands, IsBlocked, AreBlocked, GoesF
 use crate::driver::Driver;
 use crate::fault::JoinFault;
 use crate::index::Index;
+use crate::lane_tries::try_next;
 use crate::lanes::{Lane, open_lanes, put_next, read_on};
 use crate::source::EventSource;
-use crate::lane_tries::try_next;
 use aw_accept::Accepted;
 use aw_typed::Typed;
 use aw_world::{Made, Move, Workspace, World};

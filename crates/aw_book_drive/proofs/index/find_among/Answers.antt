@@ -9,7 +9,7 @@ use Rattle.aw_book_drive.proofs.index.find_among.Goals as goal
 pub loop-place-preserved : goal.loop-place-preserved
 loop-place-preserved c =
     let miss : c.is_at.result ≡ false = search rules in
-    none-more (λ k. IsAt c.args.messages.now c.args.m.now k) c.args.numbers.now c.loop-place.place c.index-numbers-place.result c.loop-place-test.true c.index-numbers-place.is c.loop-place.invariant
+    none-more (λ k. IsAt c.args.messages.now c.args.m.now k) c.args.numbers.now c.loop-place.place 0 c.loop-place-test.true c.loop-place.invariant
     (λ here. false≢true (sym miss ∙ c.is_at.ensures.1 here))
 
 pub returns-clause-none : goal.returns-clause-none
