@@ -1,15 +1,14 @@
 -- Where nothing came yet.
 use Rattle.std.specs.Prelude.{slice_get}
-use Rattle.std.proofs.Common.{◌≡◌, ℕ, zero, suc, ◌<◌, true, List, [], ◌∷◌, map, length, Some, refl, sym, ap, ◌∙◌, subst, arith}
+use Rattle.std.proofs.Common.{◌≡◌, ℕ, zero, suc, true, List, [], ◌∷◌, map, length, Some, refl, sym, ap, ◌∙◌, subst, arith}
 use Rattle.std.proofs.lemmas.Option.{same_Some}
 use Rattle.aw_journal.specs.Events.{Event}
-use Rattle.aw_law_sites.specs.Worlds.{Move, empty_world}
+use Rattle.aw_law_sites.specs.Worlds.{empty_world}
 use Rattle.aw_term.specs.Rules.{Grammar, get}
 use Rattle.aw_typed.specs.Types.{Types}
 use Rattle.aw_world.specs.MoveView.{move_of}
 use Rattle.aw_world.specs.Shown.{Shows}
 use Rattle.aw_world.specs.declared.workspace.Workspace.{Ghosts}
-use Rattle.aw_book_drive.specs.Driving.{Drives}
 use Rattle.aw_book_drive.specs.Indexes.{Covers}
 use Rattle.aw_book_drive.specs.Joins.{CanGive, Stands}
 use Rattle.aw_book_drive.specs.Journals.{journal_seen}

@@ -1,6 +1,6 @@
 -- Reads that failed, of one journal among all.
 use Rattle.std.specs.Prelude.{slice_get, slice_set}
-use Rattle.std.proofs.Common.{◌≡◌, ℕ, List, ◌++◌, map, Option, Some, Result, Ok, Err, sym, ◌∙◌, subst}
+use Rattle.std.proofs.Common.{◌≡◌, ℕ, List, map, Option, Some, Result, Ok, Err, sym, subst}
 use Rattle.aw_out.specs.Causes.{Rose}
 use Rattle.aw_journal.specs.declared.payload.NodeEvent.{NodeEvent}
 use Rattle.aw_book_drive.specs.Sources.{CountsReads, FailsAt, TellsReads}

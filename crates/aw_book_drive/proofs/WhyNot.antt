@@ -3,7 +3,7 @@ use Rattle.std.specs.Prelude.{slice_get, IsTrue, ◌↔◌}
 use Rattle.std.proofs.Common.{◌≡◌, ℕ, ◌+◌, ◌<◌, ◌≤◌, Bool, true, List, [], length, Some, sym, ap, ◌∙◌, subst, inl, inr, arith}
 use Rattle.std.proofs.lemmas.Bool.{cases_lt}
 use Rattle.std.proofs.lemmas.Option.{same_Some}
-use Rattle.aw_choice.specs.ChoiceView.{choice_of, answer_of}
+use Rattle.aw_choice.specs.ChoiceView.{choice_of}
 use Rattle.aw_choice.specs.declared.choice.Answer.{Answer}
 use Rattle.aw_choice.specs.declared.choice.Choice.{Choice}
 use Rattle.aw_journal.specs.EventView.{event_of}

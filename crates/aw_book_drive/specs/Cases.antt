@@ -1,5 +1,5 @@
 -- How the cases of joined journals stand.
-use Rattle.std.specs.Prelude.{◌≡◌, List, [], Some}
+use Rattle.std.specs.Prelude.{◌≡◌, [], Some}
 use Rattle.std.specs.declared.result.Result.{Result}
 use Rattle.aw_grammar.specs.declared.grammar.Grammar.{Grammar}
 use Rattle.aw_grammar.specs.GrammarOf.{grammar_of, words_of}

@@ -1,5 +1,5 @@
 -- What trying an event does to a world.
-use Rattle.std.specs.Prelude.{◌≡◌, ℕ, Bool, true, false, ◌&&◌, nat_eq, List, [], ◌∷◌, ◌++◌, map, length, OnOk}
+use Rattle.std.specs.Prelude.{◌≡◌, ℕ, Bool, true, false, ◌&&◌, nat_eq, List, [], ◌∷◌, ◌++◌, map}
 use Rattle.aw_apply.specs.Messages.{Message}
 use Rattle.aw_base.specs.ChoiceFits.{choice_ok}
 use Rattle.aw_grammar.specs.GrammarOf.{grammar_of}

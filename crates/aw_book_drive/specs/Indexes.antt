@@ -1,7 +1,7 @@
 -- Messages by what they are about.
 use Rattle.std.specs.Prelude.{◌≡◌, ℕ, ◌<◌, List, [], ◌∷◌, ◌++◌, length, if◌then◌else◌, Option, None, Some, slice_get}
 use Rattle.std.specs.HashMap.{HashMap, get}
-use Rattle.aw_list.specs.Members.{Member, Never}
+use Rattle.aw_list.specs.Members.{Member}
 use Rattle.aw_apply.specs.Messages.{Kind, Calls, Asks, Tells, Message}
 use Rattle.aw_msg.specs.declared.message.Message as program
 use Rattle.aw_term.specs.Names.{Ref, Result, ref_eq}

@@ -1,5 +1,5 @@
 -- How far the journal of a role came.
-use Rattle.std.specs.Prelude.{◌≡◌, ℕ, List, [], ◌∷◌, ◌++◌, length, None, Some, Ok, Err, slice_get, slice_set}
+use Rattle.std.specs.Prelude.{◌≡◌, ℕ, List, [], ◌∷◌, ◌++◌, length, None, Some, slice_get, slice_set}
 use Rattle.std.specs.declared.option.Option.{Option}
 use Rattle.aw_journal.specs.Events.{Event}
 use Rattle.aw_journal.specs.EventView.{event_of}

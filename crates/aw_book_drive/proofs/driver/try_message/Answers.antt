@@ -1,4 +1,4 @@
-use Rattle.std.specs.Prelude.{nat_eq, IfSome}
+use Rattle.std.specs.Prelude.{IfSome}
 use Rattle.std.proofs.Common.{◌≡◌, ℕ, Option, true, false, refl, sym, ap, ◌∙◌, subst, eq-eqb, rules}
 use Rattle.aw_law_sites.specs.Worlds.{Delivers}
 use Rattle.aw_world.specs.Shown.{ShowsMove}

@@ -1,4 +1,4 @@
-use Rattle.std.proofs.Common.{◌≡◌, true, false, refl, sym, ◌∙◌, subst, rules, arith}
+use Rattle.std.proofs.Common.{◌≡◌, true, false, ◌∙◌, subst, rules, arith}
 use Rattle.aw_book_drive.specs.Joins.{Goes, IsBlocked}
 use Rattle.aw_book_drive.proofs.Keeping.{set-on, uses-on}
 use Rattle.aw_book_drive.proofs.Passing.{far-ends, far-more}

@@ -1,4 +1,4 @@
-use Rattle.std.proofs.Common.{◌≡◌, true, false, refl, sym, ◌∙◌, subst, length, rules, arith}
+use Rattle.std.proofs.Common.{◌≡◌, true, false, refl, ◌∙◌, subst, length, rules}
 use Rattle.aw_book_drive.specs.Joins.{Goes, AreBlocked}
 use Rattle.aw_book_drive.proofs.Keeping.{set-on, uses-on}
 use Rattle.aw_book_drive.proofs.Passing.{through-more, through-ends}

@@ -1,5 +1,4 @@
-use Rattle.std.proofs.Common.{◌≡◌, ◌-◌, List, length, take, sym, ◌∙◌, subst, rules, arith, IfOk}
-use Rattle.aw_law_sites.specs.Homes.{front}
+use Rattle.std.proofs.Common.{◌≡◌, ◌-◌, List, length, take, sym, ◌∙◌, subst, rules, IfOk}
 use Rattle.aw_name.specs.declared.node.Step.{Step}
 use Rattle.aw_book_drive.proofs.FrontSteps.{front-take}
 use Rattle.aw_book_drive.proofs.senders.front_of.Goals as goal
