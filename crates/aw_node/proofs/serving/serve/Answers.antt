@@ -10,3 +10,6 @@ serve_workspace-requires-clause-role g c =
 
 pub returns-clause-stopped : goal.returns-clause-stopped
 returns-clause-stopped g c = c.serve_workspace.ensures.stopped (empty_site true c.args.role) (rw c.new-2.ensures.site c.new-site.ensures.site)
+
+pub returns-clause-served : goal.returns-clause-served
+returns-clause-served g c = c.serve_workspace.ensures.served (empty_site true c.args.role) (rw c.new-2.ensures.site c.new-site.ensures.site)

@@ -16,6 +16,6 @@ returns-clause-text g c = on_ok_weaker c.push_delivery.result (λ e v S.
     e ∙ ap (λ t. c.args.text.now ++ t) (told_delivery c.args.names.now.grammar.now c.step.new.self.accepted.now.grammar w.accepted.now.grammar
     (c.requires.named ∙ sym (ap (λ (a : Accepted). a.grammar) c.step.ensures.accepted)) (ap (λ (a : Accepted). a.grammar) c.step.ensures.accepted)
     c.args.number (reply_of c.in_ok-reply.reply) v (V.deliver (grammar_of w.accepted.now.grammar) v c.args.number) (length c.messages-before.result.now) _ T.reply
-    (T.world.messages ∙ ap (λ ms. map (message_of (grammar_of c.step.new.self.accepted.now.grammar)) ms) (sym c.messages.ensures))
+    (sym (ap (λ (u : V.World). u.messages) T.world) ∙ ap (λ ms. map (message_of (grammar_of c.step.new.self.accepted.now.grammar)) ms) (sym c.messages.ensures))
     (ap (λ (u : V.World). length u.messages) (sym S) ∙ length-map w.messages (message_of (grammar_of w.accepted.now.grammar))
     ∙ ap length (sym c.messages-before.ensures)))) c.push_delivery.ensures.text
