@@ -2,14 +2,24 @@
 #![tactic(auto)]
 
 mod asked;
+mod blocked;
 mod checks;
+mod copies;
 mod events;
 mod faults;
 mod following;
 mod heads;
+mod join_words;
+mod joining;
+mod joint;
+mod joint_files;
+mod offices;
 mod older;
+mod open_lines;
+mod printable;
 mod reading;
 mod redoing;
+mod senders;
 mod sentences;
 mod tasks;
 mod words;
@@ -20,6 +30,7 @@ use crate::events::tell_events;
 use crate::faults::{BookStop, FileFault};
 use crate::following::follow_tasks;
 use crate::heads::tell_spec;
+use crate::joint_files::tell_joint;
 use crate::older::tell_older;
 use crate::sentences::{sentence_of, status_of, stop_sentence, stop_status};
 use crate::tasks::tell_tasks;
@@ -164,6 +175,9 @@ fn answer<'a, R: Files<File = File> + Input + Print + Eprint + AllocGlobal>(
     let Some((name, inner)) = matches.subcommand() else {
         return Ok(USAGE);
     };
+    if name == "join" || name == "cases" {
+        return tell_joint(rt, name, inner);
+    }
     match (words_of(rt.alloc(), name, inner)?, inner.get_strs("file")) {
         (Some(asked), Some(names)) => tell_words(rt, asked, names),
         _ => Ok(USAGE),

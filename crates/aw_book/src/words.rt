@@ -1,5 +1,6 @@
 //! The words of the command line.
 use crate::asked::{Asked, CaseName, TaskView};
+use crate::join_words::{cases_command, join_command};
 use aw_list::Text;
 use aw_spelling::number_value;
 use clap::{Arg, ArgAction, ArgMatches, Command};
@@ -93,7 +94,9 @@ pub fn command<'a>(alloc: Global) -> Result<Command<'a>, AllocError> {
         .subcommand(spec)?
         .subcommand(check(alloc)?)?
         .subcommand(events)?
-        .subcommand(tasks(alloc)?)
+        .subcommand(tasks(alloc)?)?
+        .subcommand(cases_command(alloc)?)?
+        .subcommand(join_command(alloc)?)
 }
 
 /// The case that a word names, as `visit#1`.

@@ -1,0 +1,11 @@
+pub mod Indexes
+pub mod Sources
+pub mod Lanes
+pub mod Journals
+pub mod Driving
+pub mod Joins
+pub mod Cases
+pub mod JournalSources
+pub mod Selecting
+pub mod SourceLaws
+pub mod Causes
