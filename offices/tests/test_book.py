@@ -184,9 +184,60 @@ def test_a_journal_goes_on_from_an_older_copy(clinic: System, tmp_path: Path) ->
     assert got[0] == 1 and len(got[1]) == 3 and len(got[2]) == 1
 
 
+def test_joined_journals_are_one_run(clinic: System) -> None:
+    """While the nodes run: the joined text is replayed with nothing refused, and its end is what `cases` writes; of one case too."""
+    files = [journal(clinic, role) for role in clinic.offices.roles]
+    status, lines, sentences = book("join", "--settled", *files)
+    assert (status, sentences) == (0, [])
+    replayed = subprocess.run([os.environ["AW"], "replay"], input="".join(line + "\n" for line in lines).encode(), capture_output=True, timeout=LONG, check=True)
+    told = replayed.stdout.decode().splitlines()
+    answers = {line.rsplit(": ", 1)[1] for line in told if line.startswith(("start ", "choose ", "deliver "))}
+    assert answers == {"taken", "new"}
+    rows = told[next(at for at, line in enumerate(told) if line.startswith("artifacts ")) + 1:]
+    assert book("cases", *files) == (0, rows, [])
+    assert book("cases", "--open", *files)[1] == [row for row in rows if row.split(" ")[1] == "open"]
+    assert book("cases", "--case", "visit#1", *files)[1] == [row for row in rows if row.split(" ")[0].split("/")[0] == "visit#1"]
+    assert book("cases", "--case", "visit#9", *files) == (0, [], [])
+    assert re.findall(r"^(?:start visit \d+|choose .*)$", "\n".join(book("join", "--case", "visit#2", *files)[1]), re.M) == ["start visit 2"]
+
+
+def test_journals_of_all_roles_have_to_be_there_once(clinic: System, tmp_path: Path) -> None:
+    """One that is missing, twice there, of another specification, or no journal at all; a role and a case that nobody declared."""
+    first, lab = journal(clinic, "clinic"), journal(clinic, "lab")
+    for words, said in (((first,), "no journal of lab is given"), ((first, lab, first), "it is a journal of clinic"), (("--without", "lab", first, lab), "which --without names"),
+                        (("--without", "lab", first), "of which no journal is given"), (("--without", "nobody", first, lab), "no role nobody"),
+                        (("--case", "nothing#1", first, lab), "no sort nothing")):
+        status, lines, sentences = book("cases", *words)
+        assert status == 1 and not lines and said in sentences[0], words
+    assert book("join", "--case", "visit", first, lab)[0] == 2
+    assert book("join", first, tmp_path)[0] == 3 and book("join", tmp_path / "none", lab)[0] == 3
+    other = tmp_path / "other.journal"
+    text = first.read_bytes()
+    other.write_bytes(text[:1] + bytes([0, 1]) + text[3:])  # (the clinic's events, said to be the laboratory's)
+    status, lines, sentences = book("join", first, other)
+    assert status == 1 and not lines and sentences
+
+
+def test_a_journal_that_was_set_back_is_named(clinic: System, tmp_path: Path) -> None:
+    """By its copies too, which go on from their older copies where they were not."""
+    files = {role: journal(clinic, role) for role in clinic.offices.roles}
+    old = {role: tmp_path / (role + ".old") for role in files}
+    for role, file in files.items():
+        shutil.copyfile(file, old[role])
+    assert clinic.choose("choose visit#2 admit {\"Bob\", 8, glucose}") == "taken"
+    until(clinic.carried, "not every letter is carried")
+    assert book("join", "--first", *old.values(), "--", *files.values())[0] == 0
+    status, lines, sentences = book("join", old["clinic"], files["lab"])
+    assert status == 1 and not lines and "came from clinic, and no event of %s sends it" % old["clinic"] in sentences[0]
+    status, lines, _ = book("join", "--reach", old["clinic"], files["lab"])
+    assert status == 1 and "choose visit#1/admit.1 measure {5}" in lines
+    status, lines, sentences = book("join", "--first", *files.values(), "--", old["clinic"], files["lab"])
+    assert status == 1 and not lines and sentences == ["aw_book: %s: it does not go on from the older copy" % old["clinic"]]
+
+
 def test_output_that_nobody_reads_is_told(clinic: System) -> None:
     """A closed pipe, and a full device."""
-    for command in (["events"], ["tasks"], ["check"], ["spec"]):
+    for command in (["events"], ["tasks"], ["check"], ["spec"], ["join", str(journal(clinic, "lab"))], ["cases", str(journal(clinic, "lab"))]):
         words = [str(BOOK), *command, str(journal(clinic, "clinic"))]
         with open("/dev/full", "wb") as full:
             ran = subprocess.run(words, stdout=full, stderr=subprocess.PIPE, timeout=LONG, check=False)
@@ -200,26 +251,38 @@ def test_output_that_nobody_reads_is_told(clinic: System) -> None:
 
 def test_words_that_are_no_command() -> None:
     """A sentence and status 2; `--help` and `--version` are answered."""
-    for words in ((), ("nothing",), ("check",), ("events", "--digest", "x")):
+    for words in ((), ("nothing",), ("check",), ("join",), ("events", "--digest", "x"), ("cases", "--settled", "x")):
         status, lines, sentences = book(*words)
         assert status == 2 and not lines and sentences
     assert book("--help")[0] == 0 and book("--version")[1] == ["aw_book " + (Path(__file__).parents[2] / "VERSION").read_text(encoding="utf-8").strip()]
 
 
 def test_the_page_shows_what_is_written(make: Make, tmp_path: Path) -> None:
-    """Each box of the page, over the journal of the tutorial's front desk."""
+    """Each box of the page, over the journals of the tutorial's offices: the front desk's once it took in a claim, and all three once that was denied."""
     system = make(CLAIM)
     system.start()
+    system.start_post()
     assert system.choose("start claim 502") == "taken"
-    (tmp_path / "front").mkdir()
-    (tmp_path / "bin").mkdir()
+    for folder in ("front", "bin", "old", "copies"):
+        (tmp_path / folder).mkdir()
     shutil.copyfile(journal(system, "front"), tmp_path / "front" / "workspace.journal")
+    assert system.choose('choose claim#502 open_claim {88012, "scratched door", 300, "DK50 0040"}') == "taken"
+    until(system.carried, "not every letter is carried")
+    shutil.copyfile(journal(system, "assessor"), tmp_path / "old" / "assessor.journal")
+    for line in ('choose claim#502/open_claim.1 deny {"below the excess"}', "choose claim#502/open_claim.2 file_away"):
+        assert system.choose(line) == "taken"
+        until(system.carried, "not every letter is carried")
+    for role in system.offices.roles:
+        shutil.copyfile(journal(system, role), tmp_path / "copies" / (role + ".journal"))
     for name, program in (("aw", os.environ["AW"]), ("aw_book", BOOK)):
         (tmp_path / "bin" / name).symlink_to(program)
     page = (Path(__file__).parents[2] / "docs" / "BOOK.md").read_text(encoding="utf-8")
     boxes = [box for box in re.findall(r"(?ms)^```\n(.*?)^```$", page) if box.startswith("$ ")]
     commands = [part.split("\n", 1) for box in boxes for part in box[2:].split("\n$ ")]
-    assert len(commands) >= 4
+    assert len(commands) >= 7
     for command, said in commands:
         ran = subprocess.run(["sh", "-c", command], cwd=tmp_path, capture_output=True, timeout=LONG, check=False, env={"PATH": "%s:/usr/bin:/bin" % (tmp_path / "bin")})
-        assert ran.stdout.decode().rstrip("\n") == said.rstrip("\n"), command
+        shown, written = said.rstrip("\n").split("\n"), (ran.stdout + ran.stderr).decode().rstrip("\n").split("\n")
+        if " join " in command:  # (in which order letters came, the post decides)
+            shown, written = sorted(shown), sorted(written)
+        assert shown == written, command
