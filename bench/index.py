@@ -25,7 +25,7 @@ HEAD = """# The crates
 
 Written by `bench/index.py` from `crates.txt` and the page of each crate, `crates/NAME/README.md`, which says what the crate promises, why it is built so, what it does not promise, and how it was attacked. Groups are in the order in which a newcomer walks.
 
-*Stands on* names the highest crates that a crate uses, and so all below them. [*Wrong*](PLANTED.md) are wrong bodies that the checker has to refuse: tried by the gate + by hand. *Run by* are the nearest tables above a crate; `itself` is one.
+*Stands on* names the highest crates that a crate uses, and so all below them. [*Wrong*](PLANTED.md) are wrong bodies that the checker has to refuse: tried by the gate + by hand.
 """
 
 
@@ -63,26 +63,6 @@ def stands_on(crate: str) -> list[str]:
     return [it for it in direct if not any(it in below(other) for other in direct)]
 
 
-def tables_of(crate: str) -> list[str]:
-    """Returns the nearest tables above a crate."""
-    level, seen = {crate}, {crate}
-    while level:
-        level = {name for name, direct in uses().items() if level & set(direct)} - seen
-        seen |= level
-        tables = [it for it in uses() if it in level and it.startswith("table_") and it != "table_common"]
-        if tables:
-            return tables
-    return []
-
-
-def in_short(tables: list[str]) -> str:
-    """Returns some tables, or those that are left out where these are few."""
-    others = [it.removeprefix("table_") for it in uses() if it.startswith("table_") and it != "table_common" and it.removeprefix("table_") not in tables]
-    if len(others) > 2:
-        return ", ".join(tables)
-    return "all but " + ", ".join(others) if others else "all"
-
-
 def lines_in(crate: str, folder: str, ending: str) -> int:
     """Returns how many lines the crate's files with this ending have in this folder."""
     return sum(it.read_bytes().count(b"\n") for it in (CRATES / crate / folder).rglob(f"*{ending}"))
@@ -100,8 +80,7 @@ def row(crate: str) -> str:
     """Returns the line of a crate in its table."""
     by_gate, by_hand = len(planted.edits_of(crate, "must-fail")), len(planted.edits_of(crate))
     bodies = f"{by_gate} + {by_hand}" if by_gate else str(by_hand or "")
-    tables = "itself" if (CRATES / crate / "stdout").is_file() else in_short([it.removeprefix("table_") for it in tables_of(crate)])
-    cells = [crate, purpose(crate), " ".join(stands_on(crate)), bodies, tables]
+    cells = [crate, purpose(crate), " ".join(stands_on(crate)), bodies]
     return "| " + " | ".join(cells) + " |"
 
 
@@ -111,7 +90,7 @@ def page() -> str:
     total = [0, 0, 0]
     for name, what, crates in groups():
         parts.append(f"## {name.capitalize()}\n\n{what[0].upper()}{what[1:]}.\n")
-        parts.append("| Crate | What it is for | Stands on | Wrong | Run by |\n|---|---|---|---|---|\n" + "\n".join(map(row, crates)) + "\n")
+        parts.append("| Crate | What it is for | Stands on | Wrong |\n|---|---|---|---|\n" + "\n".join(map(row, crates)) + "\n")
         for crate in crates:
             for i, it in enumerate((("src", ".rt"), ("specs", ".antt"), ("proofs", ".antt"))):
                 total[i] += lines_in(crate, *it)
