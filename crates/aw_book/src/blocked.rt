@@ -33,11 +33,11 @@ pub enum Sender {
     Later { role: usize, number: u64 },
 }
 
-/// Why the journal of a role ends too early, and who sends the message that is next there.
+/// Why the journal of a role ends too early, and who sends the message that is next there; with no cause where its file got shorter.
 #[derive(Drop)]
 pub struct Blocked {
     pub role: usize,
-    pub cause: Cause,
+    pub cause: Option<Cause>,
     pub sender: Sender,
 }
 
@@ -167,6 +167,22 @@ fn push_later(
     said.push(", which sends it")
 }
 
+/// Adds why the event that is next in a journal is not allowed.
+fn push_why(
+    said: &mut Said,
+    names: &mut NameWriter<'_>,
+    files: &[Option<usize>],
+    words: &[&str],
+    sender: Sender,
+    cause: &Cause,
+) -> Result<(), AllocError> {
+    match sender {
+        Sender::NotAsked => push_cause(said, names, cause),
+        Sender::Never { role } => push_never(said, names.grammar(), files, words, role),
+        Sender::Later { role, number } => push_later(said, files, words, role, number),
+    }
+}
+
 /// A sentence on why the journal of a role ends too early.
 fn say_one(
     said: &mut Said,
@@ -176,12 +192,12 @@ fn say_one(
     lane: &Lane,
     blocked: &Blocked,
 ) -> Result<(), AllocError> {
-    push_next(said, names, name_of(files, words, blocked.role), lane)?;
-    match blocked.sender {
-        Sender::NotAsked => push_cause(said, names, &blocked.cause)?,
-        Sender::Never { role } => push_never(said, names.grammar(), files, words, role)?,
-        Sender::Later { role, number } => push_later(said, files, words, role, number)?,
-    }
+    let name = name_of(files, words, blocked.role);
+    let Some(cause) = &blocked.cause else {
+        return said.push_fault(said.allocator(), name, &FileFault::Shorter);
+    };
+    push_next(said, names, name, lane)?;
+    push_why(said, names, files, words, blocked.sender, cause)?;
     said.end(REFUSED)
 }
 
@@ -193,36 +209,53 @@ fn is_short(files: &JoinedFiles<'_>, role: usize) -> bool {
     }
 }
 
-/// Adds a journal that ends too early.
-fn push_blocked(all: &mut Vec<Blocked>, blocked: Blocked) -> Result<(), AllocError> {
-    all.push(blocked)?;
-    Ok(())
-}
-
-/// Why the journal of a role ends too early; nothing where the file got shorter.
+/// Why the journal of a role ends too early.
 fn blocked_at<P: Pages>(
     alloc: Global,
     opened: &Opened,
     files: &mut JoinedFiles<'_>,
     pages: &mut [P],
     role: usize,
-) -> Result<Option<Blocked>, BookStop>
+) -> Result<Blocked, BookStop>
     requires usable { IsUsable files.old.joined.driver }
     requires types { IsMadeFor (grammar_of opened.now.accepted.grammar) opened.now.typed }
     ensures { IsUsable files.new.joined.driver }
 {
-    let Some(cause) = files.joined.cause(role)? else {
-        return Ok(None);
+    let cause = files.joined.cause(role)?;
+    let sender = match (&cause, files.joined.lanes().get(role)) {
+        (Some(cause), Some(lane)) => {
+            sender_in(alloc, opened, files.files.as_slice(), pages, lane, cause)?
+        }
+        _ => Sender::NotAsked,
     };
-    let Some(lane) = files.joined.lanes().get(role) else {
-        return Ok(None);
-    };
-    let sender = sender_in(alloc, opened, files.files.as_slice(), pages, lane, &cause)?;
-    Ok(Some(Blocked {
+    Ok(Blocked {
         role,
         cause,
         sender,
-    }))
+    })
+}
+
+/// Adds a role whose journal ends too early, where it does.
+fn add_blocked<P: Pages>(
+    alloc: Global,
+    opened: &Opened,
+    files: &mut JoinedFiles<'_>,
+    pages: &mut [P],
+    role: usize,
+    all: &mut Vec<Blocked>,
+) -> Result<(), BookStop>
+    requires usable { IsUsable files.old.joined.driver }
+    requires types { IsMadeFor (grammar_of opened.now.accepted.grammar) opened.now.typed }
+    ensures { IsUsable files.new.joined.driver }
+{
+    if !is_short(files, role) {
+        return Ok(());
+    }
+    let blocked = blocked_at(alloc, opened, files, pages, role)?;
+    match all.push(blocked) {
+        Ok(()) => Ok(()),
+        Err(_failed) => Err(BookStop::NoMemory),
+    }
 }
 
 /// Whether the message of this event is sent later.
@@ -298,15 +331,7 @@ pub fn say_blocked<P: Pages + Drop>(
 {
     let mut all = Vec::new(alloc);
     for role in 0..files.joined.lanes().len() {
-        if is_short(files, role) {
-            match blocked_at(alloc, opened, files, &mut pages, role)? {
-                Some(blocked) => push_blocked(&mut all, blocked)?,
-                None => {
-                    let name = name_of(files.files.as_slice(), words, role);
-                    said.push_fault(alloc, name, &FileFault::Shorter)?;
-                }
-            }
-        }
+        add_blocked(alloc, opened, files, &mut pages, role, &mut all)?;
     }
     say_all(opened, words, files, all.as_slice(), said)?;
     Ok(())

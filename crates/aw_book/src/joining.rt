@@ -25,6 +25,9 @@ use std::alloc::Global;
 /// The most bytes that the lines of cases have.
 const MOST_OF_LINES: usize = 67_108_864;
 
+/// The most bytes that `aw` reads.
+const MOST_OF_INPUT: usize = 16_777_216;
+
 /// The files of journals, to be read once, again, and where they do not fit a third time.
 #[derive(Drop)]
 pub struct Readings<P> {
@@ -52,6 +55,28 @@ pub struct JoinedFiles<'g> {
     pub counts: Vec<u64>,
 }
 
+/// Writes the text of joined journals, and says so where it is longer than `aw` reads.
+fn write_text<K: Sink>(
+    alloc: Global,
+    opened: &Opened,
+    files: &JoinedFiles<'_>,
+    settled: bool,
+    said: &mut Said,
+    out: &mut K,
+) -> Result<(), BookStop> {
+    let grammar = opened.accepted.grammar();
+    let given = opened.text.as_slice();
+    let text = joined_text(alloc, grammar, given, files.joined.moves(), settled)?;
+    write_all(out, text.as_slice())?;
+    if text.len() > MOST_OF_INPUT {
+        said.push(
+            "the text has more bytes than aw reads, 16,777,216: join one case, or ask for cases",
+        )?;
+        said.end(0)?;
+    }
+    Ok(())
+}
+
 /// Writes what is asked for of joined journals.
 fn write_joined<K: Sink>(
     alloc: Global,
@@ -62,18 +87,7 @@ fn write_joined<K: Sink>(
     out: &mut K,
 ) -> Result<(), BookStop> {
     match written {
-        Written::Text { settled } => {
-            let grammar = opened.accepted.grammar();
-            let text = joined_text(
-                alloc,
-                grammar,
-                opened.text.as_slice(),
-                files.joined.moves(),
-                settled,
-            )?;
-            write_all(out, text.as_slice())?;
-            Ok(())
-        }
+        Written::Text { settled } => write_text(alloc, opened, files, settled, said, out),
         Written::Cases { open } => write_cases(alloc, files, open, said, out),
     }
 }
