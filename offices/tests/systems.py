@@ -230,7 +230,9 @@ class System:
             return True
         plain = aw("plain", self.text + "schedule\n" + "".join(line + "\n" for line in self.lines)).splitlines()
         rows = plain[next(at for at, line in enumerate(plain) if line.startswith("artifacts ")) + 1:]
-        return sorted(row for role in self.offices.roles for row in self.tasks(role)) == sorted(rows)
+        journals = [str(node.folder / "workspace.journal") for node in self.nodes.values()]
+        joined = subprocess.run([str(BOOK), "cases", *journals], capture_output=True, timeout=5 * LONG, check=True).stdout.decode().splitlines()
+        return joined == rows and sorted(row for role in self.offices.roles for row in self.tasks(role)) == sorted(rows)
 
     def tasks(self, role: str) -> list[str]:
         """The tasks in the journal of a role with their values, as `aw_book` has them."""

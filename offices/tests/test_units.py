@@ -95,7 +95,7 @@ def test_a_desk_reads_its_own_node_s_journal() -> None:
 
 def test_the_book_reads_and_writes_nothing() -> None:
     unit = (UNITS / "aw-book.service").read_text(encoding="utf-8")
-    assert re.findall(r"^ExecStart=.*aw_book (\w+)", unit, re.M) == ["check"]
+    assert re.findall(r"^ExecStart=.*aw_book (\w+)", unit, re.M) == ["check", "join"]
     assert service("aw-book.service")["CapabilityBoundingSet"] == "CAP_DAC_READ_SEARCH" and "StateDirectory" not in service("aw-book.service")
     assert "OnCalendar=*-*-* " in (UNITS / "aw-book.timer").read_text(encoding="utf-8")
 

@@ -24,9 +24,9 @@ _aw_companion() {
 _aw_book() {
   local word=${COMP_WORDS[COMP_CWORD]}
   if [ "$COMP_CWORD" -eq 1 ]; then
-    mapfile -t COMPREPLY < <(compgen -W "spec check events tasks --help --version" -- "$word")
+    mapfile -t COMPREPLY < <(compgen -W "spec check events tasks join cases --help --version" -- "$word")
   elif [[ $word == -* ]]; then
-    mapfile -t COMPREPLY < <(compgen -W "--digest --redo --begins-with --open --case --follow --help" -- "$word")
+    mapfile -t COMPREPLY < <(compgen -W "--digest --redo --begins-with --open --case --follow --settled --without --first --reach --help" -- "$word")
   else
     mapfile -t COMPREPLY < <(compgen -f -- "$word")
   fi

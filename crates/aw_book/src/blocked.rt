@@ -253,7 +253,14 @@ fn say_those(
     for blocked in all {
         if is_later(blocked) == later {
             if let Some(lane) = files.joined.lanes().get(blocked.role) {
-                say_one(said, &mut names, files.files.as_slice(), words, lane, blocked)?;
+                say_one(
+                    said,
+                    &mut names,
+                    files.files.as_slice(),
+                    words,
+                    lane,
+                    blocked,
+                )?;
             }
         }
     }

@@ -27,7 +27,9 @@ fn first<'a>(alloc: Global) -> Arg<'a> {
     Arg::new(alloc, "first")
         .long("first")
         .value_name("OLD")
-        .help("Older copies, one for each journal: what they have must fit, and what came since as far as it does. Behind them: --")
+        .help(
+            "Older copies, one for each journal: what they have must fit, and what came since as far as it does. Behind them: --",
+        )
         .action(ArgAction::Append)
         .num_args(1..)
 }
@@ -53,9 +55,15 @@ fn files<'a>(alloc: Global) -> Arg<'a> {
 /// The words of `join`.
 pub fn join_command<'a>(alloc: Global) -> Result<Command<'a>, AllocError> {
     Command::new(alloc, "join")
-        .about("Write the events of all roles' journals as one schedule, in an order in which they can have come")
+        .about(
+            "Write the events of all roles' journals as one schedule, in an order in which they can have come",
+        )
         .arg(flag(alloc, "settled", "Deliver all messages behind them"))?
-        .arg(flag(alloc, "reach", "Write what fits where they do not fit whole"))?
+        .arg(flag(
+            alloc,
+            "reach",
+            "Write what fits where they do not fit whole",
+        ))?
         .arg(case(alloc))?
         .arg(without(alloc))?
         .arg(first(alloc))?
@@ -65,9 +73,15 @@ pub fn join_command<'a>(alloc: Global) -> Result<Command<'a>, AllocError> {
 /// The words of `cases`.
 pub fn cases_command<'a>(alloc: Global) -> Result<Command<'a>, AllocError> {
     Command::new(alloc, "cases")
-        .about("Write each case as it stands in all roles' journals together, once all messages came")
+        .about(
+            "Write each case as it stands in all roles' journals together, once all messages came",
+        )
         .arg(flag(alloc, "open", "The lines of open tasks alone"))?
-        .arg(flag(alloc, "reach", "Write what fits where they do not fit whole"))?
+        .arg(flag(
+            alloc,
+            "reach",
+            "Write what fits where they do not fit whole",
+        ))?
         .arg(case(alloc))?
         .arg(without(alloc))?
         .arg(first(alloc))?

@@ -7,11 +7,11 @@ ghost use Rattle.aw_book_drive.specs.Driving.{IsUsable};
 use crate::blocked::say_blocked;
 use crate::copies::{Copies, say_copies};
 use crate::faults::{BookStop, FileFault};
-use crate::open_lines::open_lines;
 use crate::joint::{JointAsked, Said, Written};
 use crate::offices::{
     Choosing, Offices, choosing_of, count_all, name_of, open_offices, say_missing, say_no_copies,
 };
+use crate::open_lines::open_lines;
 use crate::reading::{Book, open_book};
 use aw_book_drive::{JoinFault, Joined, join};
 use aw_book_text::joined_text;

@@ -33,11 +33,7 @@ pub struct Offices<P> {
 
 impl<P: Drop> Offices<P> {
     /// No role has a journal.
-    fn new(
-        alloc: Global,
-        roles: usize,
-        case: Option<OneCase>,
-    ) -> Result<Offices<P>, AllocError> {
+    fn new(alloc: Global, roles: usize, case: Option<OneCase>) -> Result<Offices<P>, AllocError> {
         let mut sources = Vec::new(alloc);
         let mut files = Vec::new(alloc);
         for role in 0..roles {
