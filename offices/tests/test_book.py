@@ -13,6 +13,8 @@ import pytest
 from conftest import CLAIM, CLINIC, LONG, System, until
 from systems import BOOK, begin_visits
 
+from aw_offices import frames
+
 Make = Callable[[str], System]
 pytestmark = pytest.mark.skipif(not BOOK.is_file(), reason="not run: there is no aw_book at %s" % BOOK)
 
@@ -184,6 +186,38 @@ def test_a_journal_goes_on_from_an_older_copy(clinic: System, tmp_path: Path) ->
     assert got[0] == 1 and len(got[1]) == 3 and len(got[2]) == 1
 
 
+def journals(system: System) -> list[Path]:
+    """The journals of all roles."""
+    return [journal(system, role) for role in system.offices.roles]
+
+
+def test_journals_are_joined_while_their_nodes_run(clinic: System) -> None:
+    """The joined text is one that `aw` replays with nothing but what was taken and what was new; settled, its artifacts are those of the undivided run."""
+    status, lines, sentences = book("join", *journals(clinic))
+    assert (status, sentences) == (0, [])
+    replayed = subprocess.run([os.environ["AW"], "replay"], input="\n".join(lines).encode() + b"\n", capture_output=True, timeout=LONG, check=True).stdout.decode()
+    assert set(re.findall(r"(?m)^(?:start|choose|deliver) .*: (.*)$", replayed)) == {"taken", "new"}
+    assert sorted(line for line in lines if line in clinic.lines) == sorted(clinic.lines) and clinic.joined()
+    one = book("cases", "--case", "visit#1", *journals(clinic))[1]
+    assert one == [line for line in book("cases", *journals(clinic))[1] if line.startswith("visit#1")] and len(one) > 1
+
+
+def test_a_copy_that_is_put_back_fits_again_where_the_same_is_chosen(clinic: System) -> None:
+    """What the laboratory chose is gone with its journal, and the clinic has its letter; chosen once more, the journals fit."""
+    system, file = clinic, journal(clinic, "lab")
+    data, line = file.read_bytes(), "choose visit#1/admit.1 measure {5}"
+    front = b"".join(records(data)[:1 + book("events", file)[1].index(line)]) + b"\0"
+    system.kill_post()
+    system.nodes["lab"].kill()
+    file.write_bytes(front)
+    system.nodes["lab"].start()
+    status, lines, sentences = book("join", *journals(system))
+    assert (status, lines) == (1, []) and "came from lab, and no event of %s sends it: it was forged, or that journal was set back" % file in sentences[0]
+    assert book("join", "--reach", *journals(system))[1]
+    assert system.ask("lab", frames.CHOOSE, system.asked(line)[1])[0][1] == b"taken"
+    assert book("join", *journals(system))[::2] == (0, [])
+
+
 def test_output_that_nobody_reads_is_told(clinic: System) -> None:
     """A closed pipe, and a full device."""
     for command in (["events"], ["tasks"], ["check"], ["spec"]):
@@ -206,8 +240,25 @@ def test_words_that_are_no_command() -> None:
     assert book("--help")[0] == 0 and book("--version")[1] == ["aw_book " + (Path(__file__).parents[2] / "VERSION").read_text(encoding="utf-8").strip()]
 
 
+def denied_and_filed_away(system: System, folder: Path) -> None:
+    """The claim of the page goes on to its end, and copies of the journals lie where the page has them."""
+    def carry() -> None:
+        subprocess.run([os.environ["AW"], "courier", "1000"], input=system.text.encode(), capture_output=True, timeout=LONG, check=True)
+    assert system.choose('choose claim#502 open_claim {88012, "scratched door", 300, "DK50 0040"}') == "taken"
+    carry()
+    (folder / "old").mkdir()
+    shutil.copyfile(journal(system, "assessor"), folder / "old" / "assessor.journal")
+    assert system.choose('choose claim#502/open_claim.1 deny {"below the excess"}') == "taken"
+    carry()
+    assert system.choose("choose claim#502/open_claim.2 file_away") == "taken"
+    carry()
+    for role in system.offices.roles:
+        (folder / role).mkdir(exist_ok=True)
+        shutil.copyfile(journal(system, role), folder / role / "workspace.journal")
+
+
 def test_the_page_shows_what_is_written(make: Make, tmp_path: Path) -> None:
-    """Each box of the page, over the journal of the tutorial's front desk."""
+    """Each box of the page, over the journals of the tutorial's offices: when the claim has come in, and when it was filed away."""
     system = make(CLAIM)
     system.start()
     assert system.choose("start claim 502") == "taken"
@@ -221,5 +272,7 @@ def test_the_page_shows_what_is_written(make: Make, tmp_path: Path) -> None:
     commands = [part.split("\n", 1) for box in boxes for part in box[2:].split("\n$ ")]
     assert len(commands) >= 4
     for command, said in commands:
-        ran = subprocess.run(["sh", "-c", command], cwd=tmp_path, capture_output=True, timeout=LONG, check=False, env={"PATH": "%s:/usr/bin:/bin" % (tmp_path / "bin")})
+        if "assessor" in command and not (tmp_path / "old").exists():
+            denied_and_filed_away(system, tmp_path)
+        ran = subprocess.run(["sh", "-c", command + " 2>&1"], cwd=tmp_path, capture_output=True, timeout=LONG, check=False, env={"PATH": "%s:/usr/bin:/bin" % (tmp_path / "bin")})
         assert ran.stdout.decode().rstrip("\n") == said.rstrip("\n"), command
