@@ -136,7 +136,6 @@ def test_tasks_are_followed(clinic: System, tmp_path: Path) -> None:
         first = answer()
         assert first == book("tasks", file)[1]
         assert clinic.choose("choose visit#2 admit {\"Ben\", 8, glucose}") == "taken"
-        until(clinic.carried, "not every letter is carried")
         file.write_bytes(journal(clinic, "clinic").read_bytes())
         child.stdin.write(b"again\n")
         child.stdin.flush()
@@ -171,7 +170,6 @@ def test_a_journal_goes_on_from_an_older_copy(clinic: System, tmp_path: Path) ->
     old, new = tmp_path / "old", tmp_path / "new"
     old.write_bytes(file.read_bytes())
     assert clinic.choose("choose visit#2 admit {\"Ben\", 8, glucose}") == "taken"
-    until(clinic.carried, "not every letter is carried")
     new.write_bytes(file.read_bytes())
     (tmp_path / "set_back").write_bytes(old.read_bytes())
     (tmp_path / "cut").write_bytes(new.read_bytes()[:-1])
@@ -186,41 +184,77 @@ def test_a_journal_goes_on_from_an_older_copy(clinic: System, tmp_path: Path) ->
     assert got[0] == 1 and len(got[1]) == 3 and len(got[2]) == 1
 
 
-def journals(system: System) -> list[Path]:
-    """The journals of all roles."""
-    return [journal(system, role) for role in system.offices.roles]
-
-
-def test_journals_are_joined_while_their_nodes_run(clinic: System) -> None:
-    """The joined text is one that `aw` replays with nothing but what was taken and what was new; settled, its artifacts are those of the undivided run."""
-    status, lines, sentences = book("join", *journals(clinic))
+def test_joined_journals_are_one_run(clinic: System) -> None:
+    """While the nodes run: the joined text is replayed with nothing refused, and its end is what `cases` writes; of one case too."""
+    files = [journal(clinic, role) for role in clinic.offices.roles]
+    status, lines, sentences = book("join", "--settled", *files)
     assert (status, sentences) == (0, [])
-    replayed = subprocess.run([os.environ["AW"], "replay"], input="\n".join(lines).encode() + b"\n", capture_output=True, timeout=LONG, check=True).stdout.decode()
-    assert set(re.findall(r"(?m)^(?:start|choose|deliver) .*: (.*)$", replayed)) == {"taken", "new"}
-    assert sorted(line for line in lines if line in clinic.lines) == sorted(clinic.lines) and clinic.joined()
-    one = book("cases", "--case", "visit#1", *journals(clinic))[1]
-    assert one == [line for line in book("cases", *journals(clinic))[1] if line.startswith("visit#1")] and len(one) > 1
+    replayed = subprocess.run([os.environ["AW"], "replay"], input="".join(line + "\n" for line in lines).encode(), capture_output=True, timeout=LONG, check=True)
+    told = replayed.stdout.decode().splitlines()
+    answers = {line.rsplit(": ", 1)[1] for line in told if line.startswith(("start ", "choose ", "deliver "))}
+    assert answers == {"taken", "new"}
+    rows = told[next(at for at, line in enumerate(told) if line.startswith("artifacts ")) + 1:]
+    assert book("cases", *files) == (0, rows, [])
+    assert book("cases", "--open", *files)[1] == [row for row in rows if row.split(" ")[1] == "open"]
+    assert book("cases", "--case", "visit#1", *files)[1] == [row for row in rows if row.split(" ")[0].split("/")[0] == "visit#1"]
+    assert book("cases", "--case", "visit#9", *files) == (0, [], [])
+    assert re.findall(r"^(?:start visit \d+|choose .*)$", "\n".join(book("join", "--case", "visit#2", *files)[1]), re.M) == ["start visit 2"]
+
+
+def test_journals_of_all_roles_have_to_be_there_once(clinic: System, tmp_path: Path) -> None:
+    """One that is missing, twice there, of another specification, or no journal at all; a role and a case that nobody declared."""
+    first, lab = journal(clinic, "clinic"), journal(clinic, "lab")
+    for words, said in (((first,), "no journal of lab is given"), ((first, lab, first), "it is a journal of clinic"), (("--without", "lab", first, lab), "which --without names"),
+                        (("--without", "lab", first), "of which no journal is given"), (("--without", "nobody", first, lab), "no role nobody"),
+                        (("--case", "nothing#1", first, lab), "no sort nothing")):
+        status, lines, sentences = book("cases", *words)
+        assert status == 1 and not lines and said in sentences[0], words
+    assert book("join", "--case", "visit", first, lab)[0] == 2
+    assert book("join", first, tmp_path)[0] == 3 and book("join", tmp_path / "none", lab)[0] == 3
+    other = tmp_path / "other.journal"
+    text = first.read_bytes()
+    other.write_bytes(text[:1] + bytes([0, 1]) + text[3:])  # (the clinic's events, said to be the laboratory's)
+    status, lines, sentences = book("join", first, other)
+    assert status == 1 and not lines and sentences
+
+
+def test_a_journal_that_was_set_back_is_named(clinic: System, tmp_path: Path) -> None:
+    """By its copies too, which go on from their older copies where they were not."""
+    files = {role: journal(clinic, role) for role in clinic.offices.roles}
+    old = {role: tmp_path / (role + ".old") for role in files}
+    for role, file in files.items():
+        shutil.copyfile(file, old[role])
+    assert clinic.choose("choose visit#2 admit {\"Bob\", 8, glucose}") == "taken"
+    until(clinic.carried, "not every letter is carried")
+    assert book("join", "--first", *old.values(), "--", *files.values())[0] == 0
+    status, lines, sentences = book("join", old["clinic"], files["lab"])
+    assert status == 1 and not lines and "came from clinic, and no event of %s sends it" % old["clinic"] in sentences[0]
+    status, lines, _ = book("join", "--reach", old["clinic"], files["lab"])
+    assert status == 1 and "choose visit#1/admit.1 measure {5}" in lines
+    status, lines, sentences = book("join", "--first", *files.values(), "--", old["clinic"], files["lab"])
+    assert status == 1 and not lines and sentences == ["aw_book: %s: it does not go on from the older copy" % old["clinic"]]
 
 
 def test_a_copy_that_is_put_back_fits_again_where_the_same_is_chosen(clinic: System) -> None:
     """What the laboratory chose is gone with its journal, and the clinic has its letter; chosen once more, the journals fit."""
     system, file = clinic, journal(clinic, "lab")
+    files = [journal(system, role) for role in system.offices.roles]
     data, line = file.read_bytes(), "choose visit#1/admit.1 measure {5}"
     front = b"".join(records(data)[:1 + book("events", file)[1].index(line)]) + b"\0"
     system.kill_post()
     system.nodes["lab"].kill()
     file.write_bytes(front)
     system.nodes["lab"].start()
-    status, lines, sentences = book("join", *journals(system))
+    status, lines, sentences = book("join", *files)
     assert (status, lines) == (1, []) and "came from lab, and no event of %s sends it: it was forged, or that journal was set back" % file in sentences[0]
-    assert book("join", "--reach", *journals(system))[1]
+    assert book("join", "--reach", *files)[1]
     assert system.ask("lab", frames.CHOOSE, system.asked(line)[1])[0][1] == b"taken"
-    assert book("join", *journals(system))[::2] == (0, [])
+    assert book("join", *files)[::2] == (0, [])
 
 
 def test_output_that_nobody_reads_is_told(clinic: System) -> None:
     """A closed pipe, and a full device."""
-    for command in (["events"], ["tasks"], ["check"], ["spec"]):
+    for command in (["events"], ["tasks"], ["check"], ["spec"], ["join", str(journal(clinic, "lab"))], ["cases", str(journal(clinic, "lab"))]):
         words = [str(BOOK), *command, str(journal(clinic, "clinic"))]
         with open("/dev/full", "wb") as full:
             ran = subprocess.run(words, stdout=full, stderr=subprocess.PIPE, timeout=LONG, check=False)
@@ -234,45 +268,40 @@ def test_output_that_nobody_reads_is_told(clinic: System) -> None:
 
 def test_words_that_are_no_command() -> None:
     """A sentence and status 2; `--help` and `--version` are answered."""
-    for words in ((), ("nothing",), ("check",), ("events", "--digest", "x")):
+    for words in ((), ("nothing",), ("check",), ("join",), ("events", "--digest", "x"), ("cases", "--settled", "x")):
         status, lines, sentences = book(*words)
         assert status == 2 and not lines and sentences
     assert book("--help")[0] == 0 and book("--version")[1] == ["aw_book " + (Path(__file__).parents[2] / "VERSION").read_text(encoding="utf-8").strip()]
 
 
-def denied_and_filed_away(system: System, folder: Path) -> None:
-    """The claim of the page goes on to its end, and copies of the journals lie where the page has them."""
-    def carry() -> None:
-        subprocess.run([os.environ["AW"], "courier", "1000"], input=system.text.encode(), capture_output=True, timeout=LONG, check=True)
-    assert system.choose('choose claim#502 open_claim {88012, "scratched door", 300, "DK50 0040"}') == "taken"
-    carry()
-    (folder / "old").mkdir()
-    shutil.copyfile(journal(system, "assessor"), folder / "old" / "assessor.journal")
-    assert system.choose('choose claim#502/open_claim.1 deny {"below the excess"}') == "taken"
-    carry()
-    assert system.choose("choose claim#502/open_claim.2 file_away") == "taken"
-    carry()
-    for role in system.offices.roles:
-        (folder / role).mkdir(exist_ok=True)
-        shutil.copyfile(journal(system, role), folder / role / "workspace.journal")
+def carry(system: System) -> None:
+    """Carries all letters, in the same order each time."""
+    subprocess.run([os.environ["AW"], "courier", "1000"], input=system.text.encode(), capture_output=True, timeout=LONG, check=True)
 
 
 def test_the_page_shows_what_is_written(make: Make, tmp_path: Path) -> None:
-    """Each box of the page, over the journals of the tutorial's offices: when the claim has come in, and when it was filed away."""
+    """Each box of the page, over the journals of the tutorial's offices: the front desk's once it took in a claim, and all three once that was denied."""
     system = make(CLAIM)
     system.start()
     assert system.choose("start claim 502") == "taken"
-    (tmp_path / "front").mkdir()
-    (tmp_path / "bin").mkdir()
+    for folder in ("front", "bin", "old", "copies"):
+        (tmp_path / folder).mkdir()
     shutil.copyfile(journal(system, "front"), tmp_path / "front" / "workspace.journal")
+    assert system.choose('choose claim#502 open_claim {88012, "scratched door", 300, "DK50 0040"}') == "taken"
+    carry(system)
+    shutil.copyfile(journal(system, "assessor"), tmp_path / "old" / "assessor.journal")
+    for line in ('choose claim#502/open_claim.1 deny {"below the excess"}', "choose claim#502/open_claim.2 file_away"):
+        assert system.choose(line) == "taken"
+        carry(system)
+    for role in system.offices.roles:
+        shutil.copyfile(journal(system, role), tmp_path / "copies" / (role + ".journal"))
     for name, program in (("aw", os.environ["AW"]), ("aw_book", BOOK)):
         (tmp_path / "bin" / name).symlink_to(program)
     page = (Path(__file__).parents[2] / "docs" / "BOOK.md").read_text(encoding="utf-8")
     boxes = [box for box in re.findall(r"(?ms)^```\n(.*?)^```$", page) if box.startswith("$ ")]
     commands = [part.split("\n", 1) for box in boxes for part in box[2:].split("\n$ ")]
-    assert len(commands) >= 4
+    assert len(commands) >= 7
     for command, said in commands:
-        if "assessor" in command and not (tmp_path / "old").exists():
-            denied_and_filed_away(system, tmp_path)
-        ran = subprocess.run(["sh", "-c", command + " 2>&1"], cwd=tmp_path, capture_output=True, timeout=LONG, check=False, env={"PATH": "%s:/usr/bin:/bin" % (tmp_path / "bin")})
-        assert ran.stdout.decode().rstrip("\n") == said.rstrip("\n"), command
+        ran = subprocess.run(["sh", "-c", command], cwd=tmp_path, capture_output=True, timeout=LONG, check=False, env={"PATH": "%s:/usr/bin:/bin" % (tmp_path / "bin")})
+        shown, written = said.rstrip("\n").split("\n"), (ran.stdout + ran.stderr).decode().rstrip("\n").split("\n")
+        assert shown == written, command

@@ -6,9 +6,9 @@ ghost use Rattle.aw_book_drive.specs.Driving.{IsUsable};
 use crate::faults::{BookStop, FileFault};
 use crate::joining::JoinedFiles;
 use crate::joint::Said;
-use crate::offices::name_of;
+use crate::offices::{name_of, name_of_role};
 use crate::senders::find_sending;
-use aw_base::{NameWriter, push_answer, role_name};
+use aw_base::{NameWriter, push_answer};
 use aw_book_drive::{Cause, Lane, sender_of};
 use aw_book_read::push_event;
 use aw_disk::Pages;
@@ -135,7 +135,7 @@ fn push_never(
     words: &[&str],
     role: usize,
 ) -> Result<(), AllocError> {
-    let from = role_name(grammar, role as u16);
+    let from = name_of_role(grammar, role);
     said.push(" came from ")?;
     said.push_any(from)?;
     match files.get(role) {

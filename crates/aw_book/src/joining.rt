@@ -12,7 +12,7 @@ use crate::offices::{
     Choosing, Offices, choosing_of, count_all, name_of, open_offices, say_missing, say_no_copies,
 };
 use crate::open_lines::open_lines;
-use crate::reading::{Book, open_book};
+use crate::reading::open_book;
 use aw_book_drive::{JoinFault, Joined, join};
 use aw_book_text::joined_text;
 use aw_cells::CellFacts;
@@ -113,11 +113,11 @@ struct FirstReading {
 }
 
 /// Reads the journals, or their older copies, for the first time; nothing where something is wrong, which is said.
-fn read_first<P: Pages + Drop>(
+fn read_first<'n, P: Pages + Drop>(
     opened: &Opened,
-    names: &[&str],
+    names: &[&'n str],
     first: Vec<P>,
-    asked: &JointAsked<'_>,
+    asked: &JointAsked<'n>,
     choosing: &Choosing,
     said: &mut Said,
 ) -> Result<Option<FirstReading>, BookStop> {
@@ -168,11 +168,11 @@ fn join_again<'g, P: Pages + Drop>(
 }
 
 /// Reads the journals twice, and joins them as far as they fit; nothing where something is wrong, which is said.
-fn join_files<'g, P: Pages + Drop>(
+fn join_files<'g, 'n, P: Pages + Drop>(
     opened: &'g Opened,
-    names: &[&str],
+    names: &[&'n str],
     readings: TwoReadings<P>,
-    asked: &JointAsked<'_>,
+    asked: &JointAsked<'n>,
     choosing: &Choosing,
     said: &mut Said,
 ) -> Result<Option<JoinedFiles<'g>>, BookStop>
@@ -200,11 +200,11 @@ fn join_files<'g, P: Pages + Drop>(
 }
 
 /// Joins the journals of an opened specification, and writes what is asked for.
-fn tell_opened<P: Pages + Drop, K: Sink>(
+fn tell_opened<'n, P: Pages + Drop, K: Sink>(
     opened: &Opened,
-    names: &[&str],
+    names: &[&'n str],
     readings: Readings<P>,
-    asked: &JointAsked<'_>,
+    asked: &JointAsked<'n>,
     said: &mut Said,
     out: &mut K,
 ) -> Result<(), BookStop>
@@ -237,22 +237,22 @@ fn tell_opened<P: Pages + Drop, K: Sink>(
 }
 
 /// Joins the journals in these files, of which each is read twice, and writes what is asked for. What is wrong is said.
-pub fn tell_joined<P: Pages + Drop, K: Sink>(
+pub fn tell_joined<'n, P: Pages + Drop, K: Sink>(
     alloc: Global,
-    names: &[&str],
+    names: &[&'n str],
     mut readings: Readings<P>,
-    asked: &JointAsked<'_>,
+    asked: &JointAsked<'n>,
     out: &mut K,
 ) -> Result<Said, BookStop> {
     let mut said = Said::new(alloc);
-    match open_book(alloc, &mut readings.head)? {
-        Ok(Book { opened, .. }) => {
-            tell_opened(&opened, names, readings, asked, &mut said, out)?;
-        }
+    let book = match open_book(alloc, &mut readings.head)? {
+        Ok(book) => book,
         Err(fault) => {
             let name = names.first().copied().unwrap_or("");
             said.push_fault(alloc, name, &fault)?;
+            return Ok(said);
         }
-    }
+    };
+    tell_opened(&book.opened, names, readings, asked, &mut said, out)?;
     Ok(said)
 }

@@ -52,6 +52,24 @@ pub fn name_of<'a>(files: &[Option<usize>], names: &[&'a str], role: usize) -> &
     }
 }
 
+/// The name of a role; none where there is no such role.
+pub fn name_of_role(grammar: &Grammar, role: usize) -> &[u8] {
+    match u16::try_from(role) {
+        Ok(role) => role_name(grammar, role),
+        Err(_) => b"",
+    }
+}
+
+/// Whether a role is named as one that has no journal.
+fn is_without(choosing: &Choosing, role: usize) -> bool {
+    for named in choosing.without.as_slice() {
+        if usize::from(*named) == role {
+            return true;
+        }
+    }
+    false
+}
+
 /// The case that is asked for; nothing where its sort is not declared, which is said.
 fn case_in(
     grammar: &Grammar,
@@ -159,8 +177,8 @@ pub fn say_missing(
     said: &mut Said,
 ) -> Result<(), AllocError> {
     for role in 0..files.len() {
-        let named = choosing.without.contains(&(role as u16));
-        let name = role_name(grammar, role as u16);
+        let named = is_without(choosing, role);
+        let name = name_of_role(grammar, role);
         if files[role].is_none() && !named {
             said.push("no journal of ")?;
             said.push_any(name)?;
@@ -186,11 +204,45 @@ pub fn say_no_copies(
     said: &mut Said,
 ) -> Result<(), AllocError> {
     for role in 0..files.len() {
-        if files[role].is_none() && !choosing.without.contains(&(role as u16)) {
+        if files[role].is_none() && !is_without(choosing, role) {
             said.push("no older copy of the journal of ")?;
-            said.push_any(role_name(grammar, role as u16))?;
+            said.push_any(name_of_role(grammar, role))?;
             said.push(" is given behind --first")?;
             said.end(REFUSED)?;
+        }
+    }
+    Ok(())
+}
+
+/// Opens a journal, and puts it in its role's place. Where it cannot be opened, that is said.
+fn open_one<P: Pages + Drop>(
+    offices: &mut Offices<P>,
+    opened: &Opened,
+    names: &[&str],
+    file: usize,
+    mut pages: P,
+    said: &mut Said,
+) -> Result<(), BookStop> {
+    let name = names.get(file).copied().unwrap_or("");
+    let begun = match Records::begin(said.allocator(), &mut pages) {
+        Ok(begun) => begun,
+        Err(fault) => {
+            said.push_fault(said.allocator(), name, &unread(fault)?)?;
+            return Ok(());
+        }
+    };
+    match begun {
+        Begun::Whole {
+            role,
+            text,
+            records,
+        } => {
+            let source = JournalSource { pages, records };
+            let journal = Journal { role, text, source };
+            put_journal(offices, opened, names, file, journal, said)?;
+        }
+        Begun::Headless { records: _records } => {
+            said.push_fault(said.allocator(), name, &FileFault::Headless)?;
         }
     }
     Ok(())
@@ -208,28 +260,8 @@ pub fn open_offices<P: Pages + Drop>(
     let roles = opened.accepted.grammar().roles.len();
     let mut offices = Offices::new(alloc, roles, choosing.case)?;
     let mut file = 0usize;
-    for mut pages in files {
-        match Records::begin(alloc, &mut pages) {
-            Ok(
-                Begun::Whole {
-                    role,
-                    text,
-                    records,
-                },
-            ) => {
-                let source = JournalSource { pages, records };
-                let journal = Journal { role, text, source };
-                put_journal(&mut offices, opened, names, file, journal, said)?;
-            }
-            Ok(Begun::Headless { .. }) => {
-                let name = names.get(file).copied().unwrap_or("");
-                said.push_fault(alloc, name, &FileFault::Headless)?;
-            }
-            Err(fault) => {
-                let name = names.get(file).copied().unwrap_or("");
-                said.push_fault(alloc, name, &unread(fault)?)?;
-            }
-        }
+    for pages in files {
+        open_one(&mut offices, opened, names, file, pages, said)?;
         file = file.saturating_add(1);
     }
     Ok(offices)
