@@ -1,5 +1,5 @@
 #!/usr/bin/env python3
-"""book.py AW AW_BOOK [--runs N] [--seed N] [--only WORD]
+"""book.py AW AW_BOOK [--runs N] [--seed N]
 
 Serves 2 to 8 offices by real kept nodes, with drawn choices, couriers in between and nodes that are killed, as offices.py does, and holds what
 AW_BOOK says of their journals to what the nodes and AW say themselves:
@@ -9,7 +9,7 @@ AW_BOOK says of their journals to what the nodes and AW say themselves:
   rows of them, and the items that its node lists; `check` finds each journal sound, with as many events as `events` shows;
 - each journal set back by some events is refused exactly where somebody got a letter that only the events taken away send, and the letter's sender
   is named;
-- a letter that nobody sent, taken by a node, is refused and named, and nothing else is named as a cause.
+- a letter that nobody sent, taken by a node, is refused and named, nothing else is named as a cause, and what is honest is joined by `--reach`.
 
 Prints what was done and ends with 1 where anything differs. The nodes listen at the ports from 7400 on, in a network of their own where the system
 gives one.
@@ -174,29 +174,38 @@ def set_back(book, run, draw):
         want(status in (0, 1), 'a journal set back: status %d, %s' % (status, told[:200]))
         want((status == 1) == due, '%s set back to %d events is %srefused' % (role, count, '' if status else 'not '))
         if status:
-            want('set back' in told and '%s.journal' % role in told.replace(os.path.join(role, JOURNAL), role + '.journal') or role in told, 'the refusal does not name %s: %s' % (role, told[:300]))
+            want('came from %s, and no event of %s sends it' % (role, path) in told, 'the refusal does not name %s: %s' % (role, told[:300]))
             refused += 1
         else:
             is_clean(run.program, text)
     return refused
 
 
+def lies(run, draw):
+    """Letters that nobody sends, each with its office: values of what is waited for, and results of open tasks, told to offices that have not given them."""
+    waited, open_at = [], []
+    for office in run.offices.values():
+        items = [line.split(' ') for line in office.items()]
+        waited += [(office.role, words[-1]) for words in items if words[-2] == 'waits']
+        open_at += [(other, words[1] + ':r1') for words in items for other in run.names.roles if other != office.role]
+    return draw.sample(waited, len(waited)) + draw.sample(open_at, len(open_at))
+
+
 def forged(book, run, draw):
-    """A letter that nobody sent is pushed to a node that takes it: refused, and named."""
+    """A letter that nobody sent is pushed to a node that takes it: refused, and named as the one cause."""
+    run.start_case()
     run.drop_couriers()
-    roles = run.names.roles
-    for _ in range(20):
-        office = run.offices[draw.choice(roles)]
-        waits = [line.split(' ')[-1] for line in office.items() if ' waits ' in line]
-        if not waits:
-            continue
-        node = Node(run.names, office.role)
-        number, message = Words(run.names, 'to %s tell %s = "forged"' % (office.role, draw.choice(waits))).message()
+    for role, reference in lies(run, draw):
+        node = Node(run.names, role)
+        _, message = Words(run.names, 'to %s tell %s = "forged"' % (role, reference)).message()
         kind, _ = node.ask(1, message)
         node.peer.close()
         if kind == 1:
             text, status, told = book.ask('join', *files(run))
-            want(status == 1 and '"forged"' in told and 'forged' in told, 'a forged letter is joined: status %d, %s' % (status, told[:300]))
+            causes = [line for line in told.splitlines() if ' waits for event ' not in line]
+            want(status == 1 and len(causes) == 1 and 'tell %s = "forged"' % reference in causes[0] and 'it was forged' in causes[0],
+                 'a forged letter is joined, or something else is named: status %d, %s' % (status, told[:600]))
+            want(not text and is_clean(run.program, book.ask('join', '--reach', *files(run))[0]), 'what is honest is not joined')
             return 1
     return 0
 

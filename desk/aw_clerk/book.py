@@ -17,7 +17,11 @@ PIECE = 1 << 16
 
 
 class NotSaid(Exception):
-    """Why the book does not say what is in a journal, as it says so itself."""
+    """Why the book does not say what is in a journal, as it says so itself; with all that it said, and its status, where it ended."""
+
+    def __init__(self, words: str, whole: str = "", status: int = 0) -> None:
+        super().__init__(words)
+        self.whole, self.status = whole, status
 
 
 def found() -> str:
@@ -48,7 +52,8 @@ def said(*words: str) -> list[str]:
     except (OSError, subprocess.TimeoutExpired) as error:
         raise NotSaid(str(error)) from None
     if done.returncode != 0:
-        raise NotSaid(done.stderr.decode("utf-8", "replace").strip().splitlines()[-1] if done.stderr.strip() else "aw_book ended with status %d" % done.returncode)
+        whole = done.stderr.decode("utf-8", "replace").strip()
+        raise NotSaid(whole.splitlines()[-1] if whole else "aw_book ended with status %d" % done.returncode, whole, done.returncode)
     return lines_of(done.stdout)
 
 

@@ -18,6 +18,7 @@ from .node import Closed, Office, Unsure
 from .records import UNSURE, Records
 from .tasks import Task, steps_of, tasks_of
 from .values import Unfit, Value
+from .whole import Journals
 from .wording import FAULTY, Wording, same_names, titled, wording
 
 LOG = logging.getLogger("aw_desk")
@@ -39,7 +40,7 @@ class Said:
 class Desk:
     """An office's journal, node and notes. All that is shown comes from the book; all that is done is sent to the node."""
 
-    def __init__(self, specification: str, journal: str, state: Path, address: Address | None, journals: list[str], spread: Spread = Spread()) -> None:
+    def __init__(self, specification: str, journal: str, state: Path, address: Address | None, journals: Journals, spread: Spread = Spread()) -> None:
         self.wording: Wording = wording(read_file(specification).decode("utf-8", "surrogateescape"), specification)
         self.journal, self.journals, self.spread = journal, journals, spread
         self.role = self.checked(specification)
@@ -83,17 +84,6 @@ class Desk:
         if steps_of(name) is None:
             return None
         return self.open().get(name) or self.case(name.partition("/")[0]).get(name)
-
-    def whole(self, case: str) -> tuple[list[Task], int]:
-        """A case at all offices, each task as its own office knows it now, and how many journals can't be read."""
-        found, unread = dict[str, Task](), 0
-        for journal in self.journals if self.is_case(case) else []:
-            try:
-                found.update(tasks_of(book.said("tasks", "--case", case, journal)))
-            except NotSaid as error:
-                LOG.error("%s", error)
-                unread += 1
-        return [found[name] for name in sorted(found)], unread
 
     def starts(self) -> list[str]:
         """The sorts with which a case can be begun here."""

@@ -18,6 +18,7 @@ from .desk import Desk
 from .logins import Logins, line_of
 from .pages import Pages
 from .routes import application, secret_of
+from .whole import Journals
 
 NAME = "aw_desk"
 THREADS, FIRST_PORT = 8, 8400
@@ -51,6 +52,7 @@ def words_of(given: list[str]) -> argparse.Namespace:
     parser.add_argument("--logins", metavar="FILE", help="who may sit at the desk: lines that `aw_desk login NAME` writes")
     parser.add_argument("--systems", metavar="FILE", help=SYSTEMS)
     parser.add_argument("--journals", nargs="+", default=[], metavar="FILE", help="the journals of all offices, for a desk that may show whole cases")
+    parser.add_argument("--without", action="append", default=[], metavar="ROLE", help="behind --journals: an office that has no journal, since it never served")
     return parser.parse_args(given)
 
 
@@ -66,7 +68,7 @@ def terminal_words(name: str, given: list[str], behind: str) -> argparse.Namespa
     return parser.parse_args(given)
 
 
-def opened(words: argparse.Namespace, journals: list[str]) -> Desk:
+def opened(words: argparse.Namespace, journals: Journals) -> Desk:
     """The desk that some words name."""
     state = Path(words.state)
     try:
@@ -108,7 +110,7 @@ def main(given: list[str]) -> int:
         logins.read()
     elif where.host not in ("127.0.0.1", "::1", "localhost"):
         raise Sorry("A desk that others can reach needs --logins FILE; `aw_desk login NAME` writes its lines.")
-    desk = opened(words, words.journals)
+    desk = opened(words, Journals(words.journals, words.without))
     port = where.port if words.listen else FIRST_PORT + list(desk.wording.spec.roles).index(desk.role)
     signal.signal(signal.SIGTERM, ended)
     signal.signal(signal.SIGINT, ended)

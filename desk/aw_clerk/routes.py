@@ -161,15 +161,25 @@ def reading(app: flask.Flask, pages: Pages) -> None:
         if not tasks:
             flask.abort(404)
         found, then = pages.some(tasks, behind())
-        return pages.render("case.html", case=desk.wording.task(case), name=case, tasks=found, then=then, whole=bool(desk.journals))
+        return pages.render("case.html", case=desk.wording.task(case), name=case, tasks=found, then=then, whole=bool(desk.journals.files))
 
     @app.get("/whole/<case>")
     def whole(case: str) -> Answer:
-        if not desk.journals or not desk.is_case(case):
+        if not desk.journals.files or not desk.is_case(case):
             flask.abort(404)
-        tasks, unread = desk.whole(case)
+        tasks, why = desk.journals.joined(case)
+        if why:
+            return apart(case, why)
         found, then = pages.some(tasks, behind())
-        return pages.render("whole.html", case=desk.wording.task(case), name=case, tasks=found, then=then, unread=unread)
+        return pages.render("whole.html", case=desk.wording.task(case), name=case, tasks=found, then=then)
+
+    @app.get("/apart/<case>")
+    def apart(case: str, why: str = "") -> Answer:
+        if not desk.journals.files or not desk.is_case(case):
+            flask.abort(404)
+        tasks, unread = desk.journals.each(case)
+        found, then = pages.some(tasks, behind())
+        return pages.render("apart.html", case=desk.wording.task(case), name=case, tasks=found, then=then, unread=unread, why=why)
 
     @app.get("/decided")
     def decided() -> Answer:

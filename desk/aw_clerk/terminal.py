@@ -21,6 +21,7 @@ from .lists import ordered, wanted
 from .records import UNSURE
 from .tasks import Task
 from .values import BLANK, TEXT
+from .whole import Journals
 from .wording import human, moment, titled
 
 NAME = "aw_desk_tty"
@@ -257,7 +258,7 @@ def missing(fields: list[Field], form: dict[str, str]) -> Field | None:
 def main(given: list[str]) -> int:
     """Runs the desk in a terminal."""
     words = terminal_words(NAME, given, BEHIND)
-    desk = opened(words, [])
+    desk = opened(words, Journals())
     try:
         Terminal(desk, words.clerk).run()
     except (EOFError, KeyboardInterrupt):

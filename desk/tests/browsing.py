@@ -169,3 +169,11 @@ class Browser:
             assert value in control.words, "%r offers %s" % (label, sorted(control.words))
             value = control.words[value]
         control.value = value
+
+
+def good(browser: Browser) -> str:
+    """The words of the page, which has none of the faults that can be seen without a screen."""
+    page = browser.page
+    assert page is not None and page.faults() == [], (page and page.url, page and page.faults())
+    assert len(page.source.encode("utf-8", "surrogateescape")) < 50_000
+    return page.text()

@@ -78,6 +78,11 @@ class Company:
         self.system.end()
 
 
+def settled(company: Company) -> None:
+    """Waits until every letter has come: answers change no worklist."""
+    until(lambda: not company.system.unsettled() and company.system.carried(), "the letters did not come: %s" % company.system.log()[-1000:])
+
+
 @pytest.fixture
 def company() -> Iterator[Callable[[str], Company]]:
     """Makes companies that end with the test."""

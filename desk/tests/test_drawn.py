@@ -1,5 +1,5 @@
 """Drawn runs over real offices, some steps by forms and some by other clients: the rows of the pages are those that the book tells of each journal,
-and in the end those of the undivided run."""
+and of all together; and in the end those of the undivided run."""
 from __future__ import annotations
 
 import html
@@ -14,7 +14,7 @@ from systems import aw, text_of, until
 
 import client
 from aw_clerk.lists import A_PAGE
-from aw_clerk.tasks import REF, tasks_of
+from aw_clerk.tasks import REF, Task, tasks_of
 from aw_forms.value_types import field_type
 from aw_forms.verdict import read
 from browsing import Browser
@@ -53,7 +53,8 @@ class Draw:
         self.made, self.random = made, random.Random(seed)
         self.spec = read(made.system.text).spec
         self.start = next(iter(self.spec.starts))
-        self.desks = {role: made.open_desk(role) for role in made.roles}
+        self.journals = [made.journal(role) for role in made.roles]
+        self.desks = {role: made.open_desk(role, "--journals", *self.journals) for role in made.roles}
 
     def home(self, ref: str) -> str:
         """The office of the task of a reference."""
@@ -76,6 +77,7 @@ class Draw:
                 self.step(role, *self.random.choice(ready))
         for role in self.made.roles:
             self.same_case(role, case)
+        self.same_whole(case, tasks_of(self.made.book("cases", "--case", case, *self.journals)))
         self.same_list(self.random.choice(self.made.roles))
 
     def step(self, role: str, task: str, rule: str) -> None:
@@ -113,9 +115,20 @@ class Draw:
         desk, lines = self.still(role, "/case/" + quote(case), "--case", case)
         tasks, page = tasks_of(lines), desk.page
         assert page is not None and page.status == (200 if tasks else 404)
-        sections = page.source.split('<section class="task">')[1:]
-        assert [unquote(re.search(r'href="/task/([^"]*)"', section)[1]) for section in sections] == list(tasks)  # type: ignore[index]
-        for section, task in zip(sections, tasks.values()):
+        assert [unquote(name) for name in re.findall(r'<h2><a href="/task/([^"]*)"', page.source)] == list(tasks)
+        self.same_tasks(page.source, tasks)
+
+    def same_whole(self, case: str, tasks: dict[str, Task]) -> None:
+        """The page of a case at all offices, which no letter on its way changes."""
+        desk = self.desks[self.random.choice(self.made.roles)]
+        page = desk.get("/whole/" + quote(case))
+        assert page.status == 200 and "once every letter has come" in page.source and tasks
+        self.same_tasks(page.source, tasks)
+
+    def same_tasks(self, source: str, tasks: dict[str, Task]) -> None:
+        """Tasks on a page: how each was decided, and the fronts of its values."""
+        sections = source.split('<section class="task">')[1:]
+        for section, task in zip(sections, tasks.values(), strict=True):
             rule = re.search(r"Decided: <strong>(.*?)</strong>", section)
             assert (rule[1] if rule else "") == task.rule.replace("_", " ").capitalize() and (rule is None) == ("Still open." in section)
             shown = dict(zip(re.findall(r"<h3>(\w+)</h3>", section), map(SPAN.findall, re.split(r"<h3>\w+</h3>", section)[1:])))
@@ -178,4 +191,7 @@ def test_pages_are_what_the_book_says(company: Make, example: str) -> None:
         shown.update(rows)
         for number in range(1, RUNS[example] + 1, 7):
             draw.same_case(role, "%s#%d" % (draw.start, number))
+    for number in range(1, RUNS[example] + 1):
+        case = "%s#%d" % (draw.start, number)
+        draw.same_whole(case, {name: task for name, task in plain.items() if task.case == case})
     assert shown == set(plain)

@@ -9,30 +9,18 @@ from collections.abc import Callable
 from pathlib import Path
 
 import pytest
-from conftest import CLAIM_TEXT, TOP, TYPED, Company
-from systems import LONG, until
+from conftest import TYPED, Company, settled
+from systems import until
 
 from aw_clerk.desk import CLOSED, Desk
 from aw_clerk.logins import line_of
 from aw_clerk.tasks import tasks_of
 from aw_clerk.values import NUMBER, TEXT, Value
+from aw_clerk.whole import Journals
 from aw_clerk.wording import ANSWERS
-from browsing import Browser
+from browsing import Browser, good
 
 Make = Callable[[str], Company]
-
-
-def settled(company: Company) -> None:
-    """Waits until every letter has come: answers change no worklist."""
-    until(lambda: not company.system.unsettled() and company.system.carried(), "the letters did not come: %s" % company.system.log()[-1000:])
-
-
-def good(browser: Browser) -> str:
-    """The words of the page, which has none of the faults that can be seen without a screen."""
-    page = browser.page
-    assert page is not None and page.faults() == [], (page and page.url, page and page.faults())
-    assert len(page.source.encode("utf-8", "surrogateescape")) < 50_000
-    return page.text()
 
 
 def test_a_claim_by_clicks(company: Make) -> None:
@@ -83,28 +71,6 @@ def test_a_claim_by_clicks(company: Make) -> None:
     assert all(words in good(front) for words in ("Policy 88012", "What storm, roof", "Asked 12000", "Iban DK50 0040"))
     for role in made.roles:
         assert not made.log(role).replace("aw_desk: the desk of %s is at http://127.0.0.1:%d/\n" % (role, made.port(role)), "")
-
-
-def test_a_case_whole(company: Make) -> None:
-    """An office that may see all journals is shown each task of a case, under the one that it came from, as its own office knows it."""
-    made = company(TYPED)
-    made.system.start_post()
-    front = made.open_desk("front", "--journals", *map(made.journal, made.roles))
-    assert "No office has begun this case." in front.get("/whole/claim%231").text()
-    for line in ("start claim 1", 'choose claim#1 open_claim {88012, "storm, roof", 12000, "DK50 0040"}'):
-        assert made.system.choose(line) == "taken"
-    settled(made)
-    assert made.system.choose("choose claim#1/open_claim.1 inspect") == "taken"
-    front.get("/case/claim%231")
-    front.follow("The case at all offices")
-    good(front)
-    rows = {name: task for role in made.roles for name, task in tasks_of(made.book("tasks", "--case", "claim#1", made.journal(role))).items()}
-    sections = front.page.source.split('<section class="task">')[1:]
-    assert [section.split("<h2>")[1].split("</h2>")[0] for section in sections] == ["Claim 1", "Assessment, claim 1", "Survey, claim 1", "Decision, claim 1", "Payment, claim 1"]
-    assert len(rows) == 5
-    for section, name in zip(sections, sorted(rows)):
-        assert ("Decided: <strong>" in section) == (not rows[name].is_open)
-    assert sections[1].count("storm, roof") == 1 and "Assessor. Decided: <strong>Inspect" in sections[1] and "Payments. Still open." in sections[4]
 
 
 NESTED = """role shop
@@ -218,7 +184,7 @@ def test_headers_and_paths(company: Make) -> None:
     assert "script" not in page.headers["content-security-policy"] and "default-src 'none'" in page.headers["content-security-policy"]
     assert page.headers["x-content-type-options"] == "nosniff" and "httponly" in page.headers["set-cookie"].lower() and "samesite=strict" in page.headers["set-cookie"].lower()
     for url in ("/task/", "/task/claim%23999", "/task/%3Cscript%3E", "/task/claim%231/../../etc/passwd", "/task/nothing%231", "/task/claim%2318446744073709551616",
-                "/case/claim%231%20--redo", "/case/--help", "/case/claim%237", "/case/nothing%231", "/case/claim%2307", "/case/claim%23%d9%a3", "/whole/claim%231",
+                "/case/claim%231%20--redo", "/case/--help", "/case/claim%237", "/case/nothing%231", "/case/claim%2307", "/case/claim%23%d9%a3", "/whole/claim%231", "/apart/claim%231",
                 "/do/x/claim%231", "/static/style.css", "/templates/base.html", "/%ff%fe", "/" + "a" * 60000):
         assert front.get(url).status in (400, 404), url
         assert "<script>" not in front.page.source
@@ -293,7 +259,7 @@ def test_two_desks_in_one_browser(company: Make) -> None:
 def test_a_race_of_two_choices(company: Make, tmp_path: Path) -> None:
     """Both were sent while the task was open: the second is told that it came too late, and both are noted as what they were."""
     made = company(TYPED)
-    desk = Desk(str(made.system.spec), made.journal("front"), tmp_path, None, [])
+    desk = Desk(str(made.system.spec), made.journal("front"), tmp_path, None, Journals())
     try:
         assert [desk.start(clerk, "claim", 1).words for clerk in ("ada", "bob")] == ["Claim 1 has begun.", ANSWERS["known"]]
         task = desk.task("claim#1")
@@ -424,29 +390,3 @@ def test_four_thousand_open_tasks(company: Make) -> None:
         assert good(front)
     assert time.monotonic() - began < 5 * 5.0, "a page takes a second at most on a machine of its own; five times that where it is shared"
     assert front.get("/?words=claim%233999").text().count("Can be done") == 1
-
-
-def test_words_that_are_wrong(company: Make, tmp_path: Path) -> None:
-    import subprocess
-    made = company(TYPED)
-    desk, state = str(TOP / "desk" / "aw_desk"), str(tmp_path / "state")
-
-    def said(*words: str) -> tuple[int, str]:
-        done = subprocess.run(["/usr/bin/python3", desk, *words], capture_output=True, timeout=LONG, text=True)
-        assert "Traceback" not in done.stderr and done.stderr.count("\n") == 1, done.stderr
-        return done.returncode, done.stderr
-    spec, journal = str(made.system.spec), made.journal("front")
-    assert said()[0] == 2 and said(spec)[0] == 2 and said(spec, journal, state, "--listen", "x")[0] == 2
-    assert said(spec + "x", journal, state)[0] == 66
-    assert said(spec, journal + "x", state)[0] == 65
-    assert said(spec, spec, state)[0] == 65
-    assert said(spec, journal, "/proc/none/state")[0] == 73
-    assert said(spec, journal, state, "--listen", "0.0.0.0:8499")[0] == 2, "nobody unknown from outside"
-    assert said(spec, journal, state, "--logins", str(tmp_path / "none"))[0] == 66
-    (tmp_path / "logins").write_text("ada:password\n", encoding="utf-8")
-    assert said(spec, journal, state, "--logins", str(tmp_path / "logins"))[0] == 65
-    made.open_desk("front")
-    assert said(spec, journal, state, "--listen", "127.0.0.1:%d" % made.port("front"))[0] == 69
-    other = tmp_path / "other.aw"
-    other.write_text(CLAIM_TEXT.replace("rule deny", "rule refuse"), encoding="utf-8")
-    assert said(str(other), journal, state)[0] == 65

@@ -15,6 +15,7 @@ from aw_clerk.desk import Desk
 from aw_clerk.fields import Field
 from aw_clerk.pages import Pages
 from aw_clerk.routes import application
+from aw_clerk.whole import DAMAGED, PARTED, UNFIT, UNREAD, Journals
 
 MOST = 50_000
 STRANGE = b"\xff\xfe \xc2\x9b31m \xe2\x80\xae \x7f".decode("utf-8", "surrogateescape")
@@ -26,10 +27,10 @@ class Told:
     def __init__(self, folder: Path, monkeypatch: pytest.MonkeyPatch) -> None:
         self.tasks: list[str] = []
         self.said = {"spec": CLAIM_TEXT.splitlines(), "check": ["sound assessor events 0 bytes 700 behind 0 assessor.journal"]}
-        monkeypatch.setattr(book, "said", lambda *words: self.tasks if words[0] == "tasks" else self.said.get(words[0], []))
+        monkeypatch.setattr(book, "said", lambda *words: self.tasks if words[0] == "tasks" else [line for line in self.tasks if not line.startswith("item ")] if words[0] == "cases" else self.said.get(words[0], []))
         monkeypatch.setattr(book.Follower, "lines", lambda _: [line for line in self.tasks if line.startswith("item ") or line.split(" ", 2)[1] == "open"])
         (folder / "form.aw").write_bytes(b"% \xff a comment\n" + CLAIM_TEXT.encode())
-        self.desk = Desk(str(folder / "form.aw"), "assessor.journal", folder, None, ["assessor.journal"])
+        self.desk = Desk(str(folder / "form.aw"), "assessor.journal", folder, None, Journals(["assessor.journal"]))
         self.browser = application(Pages(self.desk, None, TOP / "desk" / "aw_clerk" / "templates"), b"s" * 32).test_client()
 
     def page(self, url: str) -> str:
@@ -51,7 +52,7 @@ def assessment(name: str, what: str) -> list[str]:
 
 def test_bytes_that_are_no_text_are_shown_as_such(told: Told) -> None:
     told.tasks = assessment("claim#1/open_claim.1", STRANGE)
-    for url in ("/", "/task/claim%231/open_claim.1", "/case/claim%231", "/whole/claim%231"):
+    for url in ("/", "/task/claim%231/open_claim.1", "/case/claim%231", "/whole/claim%231", "/apart/claim%231"):
         text = told.page(url)
         assert "\\xff\\xfe \\x9b31m \\u202e" in text and not re.search("[\x7f-\x9f\u202e]", text), url
 
@@ -190,15 +191,38 @@ def test_what_is_wrong_is_said_first_and_has_the_focus(told: Told) -> None:
 def test_a_case_where_journals_cannot_be_read(told: Told, monkeypatch: pytest.MonkeyPatch) -> None:
     """The others are shown, and that some are missing."""
     told.tasks = assessment("claim#1/open_claim.1", "w")
-    told.desk.journals.append("front.journal")
+    told.desk.journals.files.append("front.journal")
 
     def some(*words: str) -> list[str]:
-        if words[-1] == "front.journal":
-            raise book.NotSaid("front.journal: no such file")
+        if "front.journal" in words:
+            raise book.NotSaid("front.journal: no such file", "aw_book: front.journal: no such file", 3)
         return told.tasks
     monkeypatch.setattr(book, "said", some)
-    text = told.page("/whole/claim%231")
-    assert "The journal of one office can't be read now" in html.unescape(text) and "Assessment, claim 1" in text
-    told.desk.journals[:] = ["front.journal"] * 2
-    text = told.page("/whole/claim%231")
-    assert "The journals of 2 offices can't be read now" in html.unescape(text) and "No office has begun" not in text
+    for url in ("/whole/claim%231", "/apart/claim%231"):
+        text = html.unescape(told.page(url))
+        assert "The journal of one office can't be read now" in text and "Assessment, claim 1" in text and (UNREAD in text) == ("whole" in url)
+    told.desk.journals.files[:] = ["front.journal"] * 2
+    text = html.unescape(told.page("/whole/claim%231"))
+    assert "The journals of 2 offices can't be read now" in text and "No office has begun" not in text
+
+
+FIRST = "aw_book: front.journal: event 3 (got ask claim#1/open_claim.1:r1 from front) came from front, and no event of old.journal sends it: it was forged, or that journal was set back"
+REFUSALS = {("cases", 1, FIRST + "\naw_book: pay.journal: event 4 (start claim 1) waits for event 5 of front.journal, which sends it"): UNFIT,
+            ("cases", 1, "aw_book: no journal of payments is given: if it never served, say so by --without payments"): "Payments has no journal here",
+            ("cases", 3, "aw_book: front.journal: it got shorter since it was read"): UNREAD, ("cases", 5, "aw_book: there was not enough memory"): PARTED,
+            ("cases", 2, "error: unrecognized subcommand"): PARTED, ("check", 1, "aw_book: front.journal: whole records stand behind those that count"): DAMAGED}
+
+
+@pytest.mark.parametrize("command, status, words", REFUSALS)
+def test_why_a_case_is_not_put_together(told: Told, monkeypatch: pytest.MonkeyPatch, caplog: pytest.LogCaptureFixture, command: str, status: int, words: str) -> None:
+    """A sentence says so, each task is shown as its office knows it, and whoever runs the offices is told all that the book said."""
+    told.tasks = assessment("claim#1/open_claim.1", "w")
+
+    def some(*asked: str) -> list[str]:
+        if asked[0] == command:
+            raise book.NotSaid(words.splitlines()[-1], words, status)
+        return told.tasks
+    monkeypatch.setattr(book, "said", some)
+    text = html.unescape(told.page("/whole/claim%231"))
+    assert REFUSALS[command, status, words] in text and "Each task as its office knows it now." in text and "Assessment, claim 1" in text
+    assert words in caplog.text and ".journal" not in text

@@ -11,6 +11,7 @@ from aw_clerk import book
 from aw_clerk.desk import Desk
 from aw_clerk.pages import Pages
 from aw_clerk.routes import application
+from aw_clerk.whole import Journals
 from aw_offices.spread import spread
 
 SYSTEMS = "1 99 https://west.example/\n100 199 here\n200 299 the_office_in_town\n"
@@ -24,7 +25,7 @@ def desk(tmp_path: Path, monkeypatch: pytest.MonkeyPatch) -> Desk:
     monkeypatch.setattr(book.Follower, "lines", lambda _: [])
     (tmp_path / "form.aw").write_text(CLAIM_TEXT, encoding="utf-8")
     (tmp_path / "systems").write_text(SYSTEMS, encoding="utf-8")
-    return Desk(str(tmp_path / "form.aw"), "front.journal", tmp_path, None, [], spread(str(tmp_path / "systems")))
+    return Desk(str(tmp_path / "form.aw"), "front.journal", tmp_path, None, Journals(), spread(str(tmp_path / "systems")))
 
 
 @pytest.fixture
@@ -46,7 +47,7 @@ def test_no_other_case_is_begun(pages: flask.Flask, desk: Desk, number: int, sai
 
 def test_a_case_that_lies_elsewhere_is_shown_there(pages: flask.Flask) -> None:
     browser = pages.test_client()
-    for page in ("/task/claim%235", "/task/claim%235/open_claim.1", "/case/claim%235", "/whole/claim%235", "/do/open_claim/claim%235"):
+    for page in ("/task/claim%235", "/task/claim%235/open_claim.1", "/case/claim%235", "/whole/claim%235", "/apart/claim%235", "/do/open_claim/claim%235"):
         answer = browser.get(page)
         assert answer.status_code == 303 and answer.headers["Location"] == "https://west.example" + page
     for page, said in (("/case/claim%23250", "lie at the"), ("/task/claim%231000", "lie in none of the systems")):

@@ -221,12 +221,12 @@ class System:
         return found
 
     def joined(self) -> bool:
-        """Whether the journals hold each choice that was answered `taken`, once and in its order; and, where `aw_book` tells tasks, whether the
-        tasks in them are together those of the undivided run."""
+        """Whether the journals hold each choice that was answered `taken`, once and in its order; and, where `aw_book` is built, whether they
+        are joined to the cases of the undivided run, and its tasks are those of all journals."""
         asked = [self.asked(line) for line in self.lines]
         if any(self.kept(role) != [data for home, data in asked if home == role] for role in self.offices.roles):
             return False
-        if not tells("tasks"):
+        if not tells("cases"):
             return True
         plain = aw("plain", self.text + "schedule\n" + "".join(line + "\n" for line in self.lines)).splitlines()
         rows = plain[next(at for at, line in enumerate(plain) if line.startswith("artifacts ")) + 1:]

@@ -13,6 +13,8 @@ import pytest
 from conftest import CLAIM, CLINIC, LONG, System, until
 from systems import BOOK, begin_visits
 
+from aw_offices import frames
+
 Make = Callable[[str], System]
 pytestmark = pytest.mark.skipif(not BOOK.is_file(), reason="not run: there is no aw_book at %s" % BOOK)
 
@@ -134,7 +136,6 @@ def test_tasks_are_followed(clinic: System, tmp_path: Path) -> None:
         first = answer()
         assert first == book("tasks", file)[1]
         assert clinic.choose("choose visit#2 admit {\"Ben\", 8, glucose}") == "taken"
-        until(clinic.carried, "not every letter is carried")
         file.write_bytes(journal(clinic, "clinic").read_bytes())
         child.stdin.write(b"again\n")
         child.stdin.flush()
@@ -169,7 +170,6 @@ def test_a_journal_goes_on_from_an_older_copy(clinic: System, tmp_path: Path) ->
     old, new = tmp_path / "old", tmp_path / "new"
     old.write_bytes(file.read_bytes())
     assert clinic.choose("choose visit#2 admit {\"Ben\", 8, glucose}") == "taken"
-    until(clinic.carried, "not every letter is carried")
     new.write_bytes(file.read_bytes())
     (tmp_path / "set_back").write_bytes(old.read_bytes())
     (tmp_path / "cut").write_bytes(new.read_bytes()[:-1])
@@ -235,6 +235,23 @@ def test_a_journal_that_was_set_back_is_named(clinic: System, tmp_path: Path) ->
     assert status == 1 and not lines and sentences == ["aw_book: %s: it does not go on from the older copy" % old["clinic"]]
 
 
+def test_a_copy_that_is_put_back_fits_again_where_the_same_is_chosen(clinic: System) -> None:
+    """What the laboratory chose is gone with its journal, and the clinic has its letter; chosen once more, the journals fit."""
+    system, file = clinic, journal(clinic, "lab")
+    files = [journal(system, role) for role in system.offices.roles]
+    data, line = file.read_bytes(), "choose visit#1/admit.1 measure {5}"
+    front = b"".join(records(data)[:1 + book("events", file)[1].index(line)]) + b"\0"
+    system.kill_post()
+    system.nodes["lab"].kill()
+    file.write_bytes(front)
+    system.nodes["lab"].start()
+    status, lines, sentences = book("join", *files)
+    assert (status, lines) == (1, []) and "came from lab, and no event of %s sends it: it was forged, or that journal was set back" % file in sentences[0]
+    assert book("join", "--reach", *files)[1]
+    assert system.ask("lab", frames.CHOOSE, system.asked(line)[1])[0][1] == b"taken"
+    assert book("join", *files)[::2] == (0, [])
+
+
 def test_output_that_nobody_reads_is_told(clinic: System) -> None:
     """A closed pipe, and a full device."""
     for command in (["events"], ["tasks"], ["check"], ["spec"], ["join", str(journal(clinic, "lab"))], ["cases", str(journal(clinic, "lab"))]):
@@ -257,21 +274,25 @@ def test_words_that_are_no_command() -> None:
     assert book("--help")[0] == 0 and book("--version")[1] == ["aw_book " + (Path(__file__).parents[2] / "VERSION").read_text(encoding="utf-8").strip()]
 
 
+def carry(system: System) -> None:
+    """Carries all letters, in the same order each time."""
+    subprocess.run([os.environ["AW"], "courier", "1000"], input=system.text.encode(), capture_output=True, timeout=LONG, check=True)
+
+
 def test_the_page_shows_what_is_written(make: Make, tmp_path: Path) -> None:
     """Each box of the page, over the journals of the tutorial's offices: the front desk's once it took in a claim, and all three once that was denied."""
     system = make(CLAIM)
     system.start()
-    system.start_post()
     assert system.choose("start claim 502") == "taken"
     for folder in ("front", "bin", "old", "copies"):
         (tmp_path / folder).mkdir()
     shutil.copyfile(journal(system, "front"), tmp_path / "front" / "workspace.journal")
     assert system.choose('choose claim#502 open_claim {88012, "scratched door", 300, "DK50 0040"}') == "taken"
-    until(system.carried, "not every letter is carried")
+    carry(system)
     shutil.copyfile(journal(system, "assessor"), tmp_path / "old" / "assessor.journal")
     for line in ('choose claim#502/open_claim.1 deny {"below the excess"}', "choose claim#502/open_claim.2 file_away"):
         assert system.choose(line) == "taken"
-        until(system.carried, "not every letter is carried")
+        carry(system)
     for role in system.offices.roles:
         shutil.copyfile(journal(system, role), tmp_path / "copies" / (role + ".journal"))
     for name, program in (("aw", os.environ["AW"]), ("aw_book", BOOK)):
@@ -283,6 +304,4 @@ def test_the_page_shows_what_is_written(make: Make, tmp_path: Path) -> None:
     for command, said in commands:
         ran = subprocess.run(["sh", "-c", command], cwd=tmp_path, capture_output=True, timeout=LONG, check=False, env={"PATH": "%s:/usr/bin:/bin" % (tmp_path / "bin")})
         shown, written = said.rstrip("\n").split("\n"), (ran.stdout + ran.stderr).decode().rstrip("\n").split("\n")
-        if " join " in command:  # (in which order letters came, the post decides)
-            shown, written = sorted(shown), sorted(written)
         assert shown == written, command

@@ -100,24 +100,32 @@ def test_the_book_reads_and_writes_nothing() -> None:
     assert "OnCalendar=*-*-* " in (UNITS / "aw-book.timer").read_text(encoding="utf-8")
 
 
-def test_the_nightly_look_sees_a_damaged_journal(make: Callable[[str], System]) -> None:
-    """Its words, over the journals of nodes that run."""
-    if not tells("tasks"):
-        pytest.skip("not run: there is no aw_book with `check --redo` at %s" % BOOK)
+def test_the_nightly_look_sees_a_damaged_journal_and_one_that_was_set_back(make: Callable[[str], System]) -> None:
+    """Its words, over the journals of nodes that run, and behind a disk that failed."""
+    if not tells("join"):
+        pytest.skip("not run: there is no aw_book with `join` at %s" % BOOK)
     system = make(CLINIC)
     begin_visits(system)
     lines = re.findall(r"^ExecStart=(.*)$", (UNITS / "aw-book.service").read_text(encoding="utf-8"), re.M)
 
-    def looked() -> list[int]:
-        return [subprocess.run(shlex.split(line.replace("/run/aw-book", str(system.folder))), env={"PATH": str(BOOK.parent)}, capture_output=True,
+    def looked(words: str = "") -> list[int]:
+        return [subprocess.run(shlex.split(line.replace("/run/aw-book", str(system.folder))), env={"PATH": str(BOOK.parent), "AW_BOOK_WORDS": words}, capture_output=True,
                                timeout=LONG).returncode for line in lines]
-    assert set(looked()) == {0}
+    assert looked() == [0, 0]
     system.nodes["clinic"].kill()
     journal = system.nodes["clinic"].folder / "workspace.journal"
-    data = bytearray(journal.read_bytes())
-    data[11 + int.from_bytes(data[3:11], "big")] = 0  # (the first gate)
+    data = journal.read_bytes()
+    first = 11 + int.from_bytes(data[3:11], "big")
+    journal.write_bytes(data[:first] + b"\0" + data[first + 1:])
+    assert looked()[0] == 1, "damaged"
+    journal.write_bytes(data[:first] + b"\0")
+    assert looked() == [0, 1], "set back"
+    journal.unlink()
+    assert looked() == [0, 1], "a role without a journal"
+    system.nodes["lab"].kill()
+    (system.nodes["lab"].folder / "workspace.journal").unlink()
     journal.write_bytes(data)
-    assert looked()[0] == 1
+    assert looked() == [0, 1] and looked("--without lab") == [0, 0], "a role that is said to have none"
 
 
 @pytest.mark.parametrize("name", [name for name in names() if not name.startswith("aw-node") and name.endswith(".service") and name not in NEED_BOOK])

@@ -12,7 +12,7 @@ _aw_companion() {
   case ${COMP_WORDS[0]##*/} in
     aw_post) options="--office --at --broker --from --metrics --interval --longest --timeout --help --version" ;;
     aw_guard) options="--node --idle --session --peers --systems --help --version" ;;
-    aw_desk) options="--listen --node --logins --journals --systems --help --version" ;;
+    aw_desk) options="--listen --node --logins --journals --without --systems --help --version" ;;
     aw_desk_tty) options="--node --systems --clerk --help --version" ;;
     *) options="--help --version" ;;
   esac
