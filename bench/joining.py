@@ -11,7 +11,7 @@ from concurrent.futures import ThreadPoolExecutor
 from dataclasses import dataclass, field
 
 sys.dont_write_bytecode = True
-from living import CASE, Sorry, World, ran, tells
+from living import CASE, Sorry, World, measured, ran, tells
 from offices import artifacts, listed
 
 @dataclass
@@ -23,11 +23,13 @@ class Joined:
     rows: int = 0
     wrong: list[str] = field(default_factory=list)
     left: list[str] = field(default_factory=list)
+    tasks: list[str] = field(default_factory=list)
 
     def add(self, other: Joined) -> None:
         self.events, self.sent, self.rows = self.events + other.events, self.sent + other.sent, self.rows + other.rows
         self.wrong += other.wrong
         self.left += other.left
+        self.tasks += other.tasks
 
 
 Part = dict[str, list[str]]
@@ -107,7 +109,8 @@ class Joining:
     def same(self, found: Joined, replayed: str, chosen: list[str], items: list[str]) -> None:
         """Where a replay has other artifacts than the undivided run, or other worklists than the nodes."""
         undivided = self.undivided(chosen)
-        found.rows = undivided.count("\n") - 2
+        found.tasks = undivided.split("\n")[2:-1]
+        found.rows = len(found.tasks)
         if not undivided or artifacts(replayed) != undivided:
             found.wrong.append("the artifacts are not those of the undivided run")
         if sorted(items) != sorted(line for role in self.roles for line in listed(replayed, role)):
@@ -187,3 +190,47 @@ class Whole:
     def shown(self, cases: set[int]) -> list[str]:
         """What the worklists have of some cases."""
         return [item for item in self.items if case_of(item) in cases]
+
+
+@dataclass
+class AsOne:
+    """What aw_book says of all journals together: figures, and what is wrong."""
+
+    book: str
+    world: World
+    figures: list[tuple[str, str]] = field(default_factory=list)
+    wrong: list[str] = field(default_factory=list)
+
+    def files(self) -> list[str]:
+        return [str(office.journal) for office in self.world.offices.values()]
+
+    def ask(self, limit: int, *words: str) -> list[str]:
+        """The lines that a command writes of all journals."""
+        path = self.world.folder / "as-one"
+        took, held, status = measured([self.book, *words, *self.files()], b"", limit, path)
+        self.figures.append(("`aw_book %s` of all journals: seconds of the processor; MiB held; status" % " ".join(words), "%.1f; %.0f; %s" % (took, held / 1024, "none" if status is None else status)))
+        if status:
+            self.wrong.append("aw_book %s of all journals ended with status %s" % (" ".join(words), status))
+        lines = path.read_text(encoding="utf-8", errors="surrogateescape").split("\n")[:-1] if status == 0 else []
+        path.unlink()
+        return lines
+
+    def whole(self, joined: Joined) -> AsOne:
+        """All of them, which fit: each event is joined, and the cases are those of the undivided run."""
+        lines = self.ask(3600, "join") if tells(self.book, "join") else []
+        events = [line for line in lines[lines.index("schedule 2"):] if line.startswith(("start ", "choose ", "deliver "))] if "schedule 2" in lines else []
+        if lines and (len(events) != joined.events or len(set(events)) != len(events)):
+            self.wrong.append("aw_book join writes %d events, %d of them different, and the journals have %d" % (len(events), len(set(events)), joined.events))
+        told = self.ask(3600, "cases") if tells(self.book, "cases") else []
+        if told and sorted(told) != sorted(joined.tasks):
+            self.wrong.append("aw_book cases writes %d tasks that are not the %d of the undivided run" % (len(told), len(joined.tasks)))
+        return self
+
+    def cases(self, work: Joining, some: list[int]) -> AsOne:
+        """Some cases alone, which fit whatever the others do: each is that of the undivided run."""
+        for case in some if tells(self.book, "cases") else ():
+            lines = self.world.lines.get(case, [])
+            said = ran([self.book, "cases", "--case", "%s#%d" % (lines[0].split(" ")[1], case), *self.files()])
+            if said.returncode or said.stdout.split("\n")[:-1] != work.undivided(lines).split("\n")[2:-1]:
+                self.wrong.append("aw_book cases of case %d alone: status %d, %s" % (case, said.returncode, said.stderr.strip()[:200]))
+        return self

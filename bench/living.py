@@ -60,13 +60,13 @@ def ran(words: list[str], given: str | None = None, env: dict[str, str] | None =
                           env={**os.environ, **(env or {})})
 
 
-def measured(words: list[str], source: bytes, limit: int) -> tuple[float, int, int | None]:
+def measured(words: list[str], source: bytes, limit: int, written: Path | None = None) -> tuple[float, int, int | None]:
     """Seconds of the processor, KiB held, and the status of a program; none where it took too long. GNU time tells what it holds, since a process holds
-    at first what its parent does."""
-    with tempfile.TemporaryFile() as file, tempfile.NamedTemporaryFile("r") as told:
+    at first what its parent does. What it writes goes to a file where one is named."""
+    with tempfile.TemporaryFile() as file, tempfile.NamedTemporaryFile("r") as told, open(written or os.devnull, "wb") as output:
         file.write(source)
         file.seek(0)
-        process = subprocess.Popen(["/usr/bin/time", "-q", "-f", "%M", "-o", told.name, *words], stdin=file, stdout=subprocess.DEVNULL, stderr=subprocess.DEVNULL,
+        process = subprocess.Popen(["/usr/bin/time", "-q", "-f", "%M", "-o", told.name, *words], stdin=file, stdout=output, stderr=subprocess.DEVNULL,
                                    preexec_fn=lambda: resource.setrlimit(resource.RLIMIT_CPU, (limit, limit)))
         _, code, used = os.wait4(process.pid, 0)
         process.returncode = status = os.waitstatus_to_exitcode(code)

@@ -386,6 +386,8 @@ class Month(Clerks):
         wrong += world.choices_differ()
         self.joined = joining.Whole(self.book, world, GROUP, self.given.jobs, set(self.early), self.touched, items).joined()
         wrong += self.joined.wrong + list(self.besides_differ())
+        self.alone = self.draw.sample(sorted(set(world.lines) - set(self.early) - self.touched), 10)
+        wrong += joining.AsOne(self.book, world).cases(joining.Joining(world.binary, world.text, world.names.roles), self.alone).wrong
         return wrong
 
     def letters_differ(self) -> list[str]:
@@ -428,6 +430,7 @@ class Month(Clerks):
         if hasattr(self, "joined"):
             rows += [("letters in the outboxes, brought once more", self.world.counted), ("events in the journals", self.events),
                      ("events joined", self.joined.events), ("tasks equal to the undivided run", self.joined.rows),
+                     ("cases that `aw_book cases --case` shows as the undivided run has them", len(self.alone)),
                      ("most MiB held by a node", "%.0f" % (max(self.memory.values()) / 1024))]
         rows.append(("seconds", "%.0f" % took))
         for name, value in rows:

@@ -7,6 +7,7 @@ from __future__ import annotations
 import argparse
 import itertools
 import os
+import re
 import resource
 import shutil
 import signal
@@ -34,6 +35,9 @@ WORDS = ("spec", "check", "check --digest", "events")
 GOOD, NOT_GOOD, USAGE, NOT_READ, NOT_WRITTEN, NO_MEMORY = 0, 1, 2, 3, 4, 5
 REPLACED = [b"\0", b"\1", b"\2", b"\x7f", b"\xff", b"\n", b"a"]
 SHOWN = 200
+JOINING, MOST_ROLES, ROLE = ("join", "cases"), 64, re.compile(rb"(?m)^role ([a-z][a-z0-9_]*)")
+CLEAN = {b"taken", b"new"}
+VISITS = 100_000
 MEBIBYTE = 1 << 20
 TEXT = sessions.example("insurance-claim.aw").split(b"\nschedule")[0] + b"\n"
 
@@ -76,6 +80,15 @@ def journals(aw: str) -> dict[str, bytes]:
 def asked_of(book: str) -> list[list[str]]:
     """The commands that read one journal."""
     return [words.split() for words in WORDS] + [[word] for word in ("tasks", "join", "cases") if living.tells(book, word)]
+
+
+def alone(command: list[str], data: bytes) -> list[str]:
+    """A command that reads one journal. What joins all of them is told that every other role of its head never served."""
+    end = nodes.head_length(data) if data else None
+    if command[0] not in JOINING or end is None or b"\nschedule" in data[:end]:
+        return command
+    own, roles = struct.unpack_from(">H", data, 1)[0], ROLE.findall(data[11:end])[:MOST_ROLES]
+    return [*command, *(word for at, role in enumerate(roles) if at != own for word in ("--without", role.decode()))]
 
 
 Answer = tuple[int, bytes, bytes]
@@ -124,7 +137,7 @@ def differs(book: str, commands: list[list[str]], path: Path, data: bytes, cut: 
     words, count = stands(data)
     kind = "?"
     for command in commands:
-        status, written, told = answer([book, *command, str(path)])
+        status, written, told = answer([book, *alone(command, data), str(path)])
         lines = written.split(b"\n")[:-1]
         if status not in (GOOD, NOT_GOOD, NO_MEMORY) or b"panic" in told or (status and not told and command[0] != "check"):
             return "%s: status %d, %r" % (" ".join(command), status, told[:SHOWN]), "wrong"
@@ -174,7 +187,7 @@ def cuts(program: str, binary: str, aw: str, every: int = 1) -> int:
         whole = whole_of(binary, data)
         made = (("cut to %d bytes" % length, data[:length]) for length in range(0, len(data) + 1, every))
         wrong += told("a journal, cut: " + name, each_file(binary, made, True, whole))
-    return wrong
+    return wrong + joins(binary, aw, "cut", lambda data, at: [("cut to %d bytes" % at, data[:at])], every)
 
 
 def whole_of(book: str, data: bytes) -> list[bytes]:
@@ -188,11 +201,16 @@ def whole_of(book: str, data: bytes) -> list[bytes]:
 def changed(data: bytes, every: int) -> Iterator[tuple[str, bytes]]:
     """A file with a byte taken out, doubled or replaced, at each place or each so-manyth."""
     for at in range(0, len(data), every):
-        yield "byte %d taken out" % at, data[:at] + data[at + 1:]
-        yield "byte %d doubled" % at, data[:at] + data[at:at + 1] + data[at:]
-        for other in REPLACED:
-            if other != data[at:at + 1]:
-                yield "byte %d is %r" % (at, other), data[:at] + other + data[at + 1:]
+        yield from changes_at(data, at)
+
+
+def changes_at(data: bytes, at: int) -> Iterator[tuple[str, bytes]]:
+    """A file with a byte taken out, doubled or replaced."""
+    yield "byte %d taken out" % at, data[:at] + data[at + 1:]
+    yield "byte %d doubled" % at, data[:at] + data[at:at + 1] + data[at:]
+    for other in REPLACED:
+        if other != data[at:at + 1]:
+            yield "byte %d is %r" % (at, other), data[:at] + other + data[at + 1:]
 
 
 def changes(program: str, binary: str, aw: str, every: int) -> int:
@@ -202,7 +220,73 @@ def changes(program: str, binary: str, aw: str, every: int) -> int:
     wrong = 0
     for name, data in journals(aw).items():
         wrong += told("a journal, changed: " + name, each_file(binary, changed(data, every), False, []))
+    return wrong + joins(binary, aw, "changed", changes_at, 5 * every)
+
+
+# Journals that are joined.
+
+CLAIMS = ("start claim 1", 'choose claim#1 open_claim {7, "storm, roof", 120, "DK50"}', "start claim 2", 'choose claim#2 open_claim {8, "fire", 9000, "DK51"}',
+          "choose claim#1/open_claim.1 inspect", "choose claim#1/open_claim.1/inspect.1 find_repairable {90}", "choose claim#1/open_claim.1/inspect.2 pay_repair",
+          "choose claim#1/open_claim.2 pay", 'choose claim#2/open_claim.1 deny {"no cover"}', "choose claim#2/open_claim.2 file_away")
+
+
+def system(aw: str) -> dict[str, bytes]:
+    """The journals of three offices, by roles, through which two claims went."""
+    with tempfile.TemporaryDirectory(dir=nodes.FAST) as folder:
+        world = living.World(aw, TEXT.decode(), Path(folder), 0)
+        try:
+            for office in world.offices.values():
+                office.start()
+            for line in CLAIMS:
+                one = living.step(world.text, world.names, 0, line)
+                if not world.choose(one.role, [one])[0]:
+                    raise living.Sorry("%s is not taken by the node of %s; name the program aw with --aw." % (line, one.role))
+                answer([aw, "courier", "100"], TEXT)
+        finally:
+            world.stop()
+        return {role: office.journal.read_bytes() for role, office in world.offices.items()}
+
+
+def joins(book: str, aw: str, how: str, make: Callable[[bytes, int], Iterable[tuple[str, bytes]]], every: int) -> int:
+    """One of all journals is cut or changed, at each so-manyth place of its events and some of its head, and all are joined; how many answers differ."""
+    if not living.tells(book, "join"):
+        return 0
+    wrong, whole = 0, system(aw)
+    for role, data in whole.items():
+        with tempfile.TemporaryDirectory(dir=nodes.FAST) as folder:
+            places = [Path(folder) / name for name in whole]
+            for place in places:
+                place.write_bytes(whole[place.name])
+            wrong += told("all journals joined, that of %s %s" % (role, how), (
+                (name, joined_differs(book, aw, places, Path(folder) / role, one)) for at in places_of(data, every) for name, one in make(data, at)))
     return wrong
+
+
+def places_of(data: bytes, every: int) -> list[int]:
+    """Places of a journal: some of its head, and each so-manyth of its events."""
+    head = nodes.head_length(data) or 0
+    return [*range(0, head, 50 * every), *range(head, len(data) + 1, every)]
+
+
+def joined_differs(book: str, aw: str, places: list[Path], path: Path, data: bytes) -> tuple[str | None, str]:
+    """What is wrong with how journals are joined of which one is these bytes, or nothing; and the status."""
+    path.write_bytes(data)
+    files = [str(place) for place in places]
+    status, written, said = answer([book, "join", "--settled", *files])
+    cases = answer([book, "cases", *files])
+    if status not in (GOOD, NOT_GOOD) or b"panic" in said or cases[0] != status or (status == NOT_GOOD and (written or cases[1] or not said)):
+        return "join has status %d and cases %d, %r" % (status, cases[0], said[:SHOWN]), "wrong"
+    reached = written if status == GOOD else answer([book, "join", "--reach", *files])[1]
+    count = len(re.findall(rb"(?m)^(?:start|choose|deliver) ", reached.partition(b"\nschedule")[2]))
+    if status == GOOD and count != sum(stands(place.read_bytes())[1] for place in places):
+        return "%d events are joined" % count, "wrong"
+    ended, replayed, _ = answer([aw, "replay"], reached) if reached else (0, b"", b"")
+    answers = re.findall(rb"(?m)^(?:start|choose|deliver) .*: (.*)$", replayed)[:count]
+    if ended or set(answers) - CLEAN or len(answers) != count:
+        return "what is joined is replayed with status %d, %s" % (ended, sorted(set(answers) - CLEAN)[:2]), "wrong"
+    if status == GOOD and replayed[replayed.find(b"\nartifacts "):].split(b"\n")[2:-1] != cases[1].split(b"\n")[:-1]:
+        return "cases are not the artifacts of what is joined", "wrong"
+    return None, "fit" if status == GOOD else "do not fit"
 
 
 def faults(program: str, binary: str, aw: str, source: str, first: int) -> int:
@@ -217,7 +301,7 @@ def faults(program: str, binary: str, aw: str, source: str, first: int) -> int:
 
         def run(words: list[str], call: str, at: int, rest: int) -> Answer:
             return answer([*words, str(path)], env={"LD_PRELOAD": shim, "FAULTY_CALL": call, "FAULTY_AT": str(at), "FAULTY_REST": str(rest), "FAULTY_COUNT": str(count)})
-        for command in asked_of(binary):
+        for command in (alone(one, data) for one in asked_of(binary)):
             for call in ("memory", "disk", "write"):
                 whole = run([binary, *command], call, 0, 0)
                 calls = int(count.read_text() or 0)
@@ -257,6 +341,49 @@ def large(aw: str) -> Iterator[tuple[str, bytes]]:
     yield "1,000,000 letters of one byte", head + b"".join(b"\x01" + struct.pack(">Q", 2) + b"\x02\x01" for _ in range(1_000_000)) + b"\0"
 
 
+def sets(aw: str) -> Iterator[tuple[str, list[bytes], int]]:
+    """Journals of a clinic and a laboratory that nobody in good faith joins, and the status that is called for."""
+    text, case = sessions.example("clinical-test.aw").split(b"\nschedule")[0] + b"\n", 0x1122334455667788
+    names = nodes.Names(text.decode())
+    lines = ["start visit %d" % case, 'choose visit#%d admit {"Ada", 7, glucose}' % case, "pull 0"]
+    served = nodes.serve(aw, ["node", "clinic", "1", "kept"], text, [b"".join(nodes.requests(names, "\n".join(lines)))])
+    empty = nodes.serve(aw, ["node", "lab", "1", "kept"], text, [b""]).journal or b""
+    made, call = nodes.events(served.journal)[0], b"\2" + nodes.split(served.replies[0])[-1][5:]
+    heads = [data[:nodes.head_length(data)] for data in (served.journal, empty)]
+
+    def of(event: bytes, numbers: Iterable[int]) -> list[bytes]:
+        return [event.replace(struct.pack(">Q", case), struct.pack(">Q", number)) for number in numbers]
+
+    def both_of(clinic: list[bytes], lab: list[bytes]) -> list[bytes]:
+        return [head + b"".join(b"\1" + struct.pack(">Q", len(event)) + event for event in events) + b"\0" for head, events in zip(heads, (clinic, lab))]
+    visits = [event for pair in zip(of(made[0], range(VISITS)), of(made[1], range(VISITS))) for event in pair]
+    calls, strange = of(call, range(VISITS)), of(call, range(VISITS, 2 * VISITS))
+    yield "%d visits, whose calls came in their order" % VISITS, both_of(visits, calls), GOOD
+    yield "the calls came in falling order", both_of(visits, calls[::-1]), GOOD
+    yield "the first call is of a visit that never was", both_of(visits, strange[:1] + calls), NOT_GOOD
+    yield "the last call is of a visit that never was", both_of(visits, calls + strange[:1]), NOT_GOOD
+    yield "%d calls of visits that never were" % VISITS, both_of([], strange), NOT_GOOD
+    yield "each call came twice", both_of(visits, [one for call in calls for one in (call, call)]), NOT_GOOD
+    yield "the laboratory has the clinic's choices", both_of(visits, visits), NOT_GOOD
+
+
+def joined_rows(book: str, aw: str, limit: int) -> bool:
+    """A row for each set of journals; whether each ended as it is called for."""
+    good = True
+    with tempfile.TemporaryDirectory(dir=nodes.FAST) as folder:
+        places = [Path(folder) / name for name in ("clinic", "lab")]
+        for name, journals_, wanted in sets(aw):
+            for place, data in zip(places, journals_):
+                place.write_bytes(data)
+            for command in (["join"], ["join", "--reach"], ["join", "--case", "visit#7"], ["cases"]):
+                took, held, status = living.measured([book, *command, *map(str, places)], b"", limit)
+                fits = status == wanted or (command[1:2] == ["--case"] and status == GOOD)
+                good = good and fits
+                print("| %s | `%s` | %.1f | %s%s | %.2f | %.1f |" % (name, " ".join(command), sum(map(len, journals_)) / MEBIBYTE, "none" if status is None else status,
+                                                                     "" if fits else " !", took, held / 1024), flush=True)
+    return good
+
+
 def hostile_rows(program: str, binary: str, aw: str, limit: int) -> bool:
     """A row for each; whether each ended with a status that is called for, and within its time."""
     if program != "aw_book":
@@ -268,12 +395,12 @@ def hostile_rows(program: str, binary: str, aw: str, limit: int) -> bool:
         for name, data in large(aw):
             path.write_bytes(data)
             for command in asked_of(binary):
-                took, held, status = living.measured([binary, *command, str(path)], b"", limit)
+                took, held, status = living.measured([binary, *alone(command, data), str(path)], b"", limit)
                 fits = status in (GOOD, NOT_GOOD, NO_MEMORY)
                 good = good and fits
                 print("| %s | `%s` | %.1f | %s%s | %.2f | %.1f |" % (name, " ".join(command), len(data) / MEBIBYTE, "none" if status is None else status,
                                                                      "" if fits else " !", took, held / 1024), flush=True)
-    return good
+    return (joined_rows(binary, aw, limit) if living.tells(binary, "join") else True) and good
 
 
 # The edge of aw_book.
@@ -375,6 +502,10 @@ def edge(program: str, binary: str, aw: str) -> int:
 
 # Companions.
 
+SYSTEMS = b"% the east\n1 999999 https://west.example\n1000000 1999999 here\n"
+LASTING = {"aw_post": 1.5, "aw_guard": 1.5, "aw_desk": 5.0}
+
+
 def given_to(aw: str) -> Iterator[tuple[str, list[str], bytes]]:
     """What each companion is given, as a file in the place of FILE."""
     top, text = living.TOP, sessions.example("clinical-test.aw")
@@ -388,6 +519,13 @@ def given_to(aw: str) -> Iterator[tuple[str, list[str], bytes]]:
     yield "aw_carry_over .. FILE", [str(top / "offices" / "aw_carry_over"), "JOURNAL", "FILE", "RESULT"], spec
     yield "aw_post .. FILE", [str(top / "offices" / "aw_post"), "SPEC", "FILE"], b'{"clinic lab": [3, "00"], "lab clinic": [1, "11"]}'
     yield "aw_post FILE ..", [str(top / "offices" / "aw_post"), "FILE", "PLACES"], spec
+    yield "aw_guard FILE ..", [str(top / "offices" / "aw_guard"), "FILE", "lab", "person=127.0.0.1:8401"], spec
+    yield "aw_guard --systems FILE", [str(top / "offices" / "aw_guard"), "--systems", "FILE", "SPEC", "lab", "person=127.0.0.1:8401"], SYSTEMS
+    desk = [str(top / "desk" / "aw_desk"), "--listen", "127.0.0.1:8400"]
+    yield "aw_desk FILE ..", [*desk, "FILE", "JOURNAL", "STATE"], spec
+    yield "aw_desk .. FILE ..", [*desk, "SPEC", "FILE", "STATE"], data
+    yield "aw_desk --logins FILE", [*desk, "--logins", "FILE", "SPEC", "JOURNAL", "STATE"], b"ada:scrypt$32768$8$1$c2FsdHNhbHQ=$a2V5a2V5a2V5a2V5a2V5a2V5a2V5a2V5\n"
+    yield "aw_desk --systems FILE", [*desk, "--systems", "FILE", "SPEC", "JOURNAL", "STATE"], SYSTEMS
 
 
 def companions(aw: str, make: Callable[[bytes], Iterable[bytes]], how: str) -> int:
@@ -395,7 +533,7 @@ def companions(aw: str, make: Callable[[bytes], Iterable[bytes]], how: str) -> i
     wrong, data = 0, next(iter(journals(aw).values()))
     for name, words, good in given_to(aw):
         with tempfile.TemporaryDirectory(dir=nodes.FAST) as folder:
-            files = {word: str(Path(folder) / word) for word in ("FILE", "SPEC", "JOURNAL", "RESULT", "PLACES")}
+            files = {word: str(Path(folder) / word) for word in ("FILE", "SPEC", "JOURNAL", "RESULT", "PLACES", "STATE")}
             Path(files["SPEC"]).write_bytes(data[11:nodes.head_length(data)])
             Path(files["JOURNAL"]).write_bytes(data)
             judged = []
@@ -412,7 +550,7 @@ def companion(words: list[str], aw: str) -> tuple[str | None, str]:
     process = subprocess.Popen([sys.executable, "-B", *words], stdin=subprocess.DEVNULL, stdout=subprocess.PIPE, stderr=subprocess.PIPE, env={**os.environ, "AW": aw})
     told_to_end = False
     try:
-        written, said = process.communicate(timeout=1.5 if "aw_post" in words[0] else 60)
+        written, said = process.communicate(timeout=LASTING.get(os.path.basename(words[0]), 60))
     except subprocess.TimeoutExpired:
         told_to_end = True
         process.send_signal(signal.SIGTERM)

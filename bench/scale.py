@@ -21,6 +21,7 @@ from __future__ import annotations
 
 import argparse
 import math
+import os
 import random
 import re
 import resource
@@ -95,7 +96,7 @@ class Ring(Clerks):
 @dataclass
 class Figures:
     """What was measured: cases, messages and seconds; KiB that a node held, at first, at the end of the busiest and of all together; bytes of the
-    largest journal and of all; and seconds in which the node of the largest one opens it."""
+    largest journal and of all; and seconds of the processor in which the node of the largest one opens it."""
 
     roles: int
     cases: int
@@ -144,11 +145,13 @@ def show(rows: list[tuple[str, str]]) -> None:
 # Many offices.
 
 def opening_of(world: World) -> float:
-    """Seconds in which the node of the largest journal opens it."""
+    """Seconds of the processor in which the node of the largest journal opens it."""
     office = max(world.offices.values(), key=lambda one: one.journal.stat().st_size)
     office.kill()
     office.start()
-    return office.reopened
+    assert office.process is not None
+    used = Path("/proc/%d/stat" % office.process.pid).read_text(encoding="ascii").rpartition(")")[2].split()
+    return max(int(used[11]) + int(used[12]), 1) / os.sysconf("SC_CLK_TCK")
 
 
 def bound(ring: Ring) -> int:
@@ -194,14 +197,16 @@ def lived(given: argparse.Namespace, book: str, ring: Ring) -> int:
     wrong += joined.wrong
     if joined.sent != sent:
         wrong.append("the joined journals send %d messages, and the nodes sent %d" % (joined.sent, sent))
+    one = joining.AsOne(book, world).whole(joined)
+    wrong += one.wrong
     figures = Figures(given.roles, ring.begun, sent, took, first, max(held), sum(held), max(sizes), sum(sizes), opening)
     show([("nodes; posts", "%d; %d" % (given.roles, len(world.posts))), ("cases", "{:,}".format(ring.begun)),
           ("choices", "{:,}".format(sum(map(len, world.taken.values())))), ("messages sent", "{:,}".format(sent)),
           ("messages at most, by the bound", "{:,}".format(most)), ("seconds until every letter was carried", "%.0f" % took),
           ("messages a second", "%.0f" % (sent / took)), ("MiB of a node: at first, the most, all together", "%.1f; %.1f; %.0f" % (first / 1024, max(held) / 1024, sum(held) / 1024)),
           ("MiB of a post, the most", "%.0f" % (max(posts) / 1024)), ("MiB of journals: the largest, all together", "%.1f; %.0f" % (max(sizes) / 2**20, sum(sizes) / 2**20)),
-          ("seconds in which the largest is opened", "%.1f" % opening), ("events joined", "{:,}".format(joined.events)),
-          ("tasks equal to the undivided run", "{:,}".format(joined.rows)), ("seconds in all", "%.0f" % (time.monotonic() - began))])
+          ("seconds of the processor in which the largest is opened", "%.2f" % opening), ("events joined", "{:,}".format(joined.events)),
+          ("tasks equal to the undivided run", "{:,}".format(joined.rows)), *one.figures, ("seconds in all", "%.0f" % (time.monotonic() - began))])
     print()
     show(plan(figures, given.plan or 10_000_000, given.machine, given.opening))
     print("\nThese figures again: --plan %d --figures %s" % (given.plan or 10_000_000, ",".join("%g" % value for value in vars(figures).values())))

@@ -14,6 +14,7 @@ from aw_forms.program import Sorry
 
 LOG = logging.getLogger("aw_desk")
 NAME = re.compile(r"[^\s:\x00-\x1f]{1,64}")
+KEPT = re.compile(r"scrypt(\$[0-9]{1,9}){3}\$[A-Za-z0-9+/=]*\$[A-Za-z0-9+/=]+")
 COST, BLOCK, LANES, MOST_MEMORY = 1 << 15, 8, 1, 1 << 26
 SHORTEST = 10
 
@@ -51,7 +52,7 @@ class Logins:
             for number, line in enumerate(self.path.read_text(encoding="utf-8").splitlines(), 1):
                 if line.strip() and not line.startswith("#"):
                     name, colon, rest = line.partition(":")
-                    if not colon or not rest.startswith("scrypt$") or rest.count("$") != 5:
+                    if not colon or not KEPT.fullmatch(rest):
                         raise Sorry("%s: line %d is no line of a clerk; `aw_desk login NAME` writes one." % (self.path, number), 65)
                     found[name] = rest
             self.lines, self.stamp = found, (now.st_mtime_ns, now.st_size)
