@@ -1,5 +1,5 @@
 -- What is said of one run of the program.
-use Rattle.std.specs.Prelude.{◌≡◌, ◌≢◌, ℕ, Bool, List, [], Option, Some, Result, IfErr, IfSome}
+use Rattle.std.specs.Prelude.{◌≡◌, ◌≢◌, ℕ, Bool, List, [], ◌∷◌, codes, Option, Some, Result, IfErr, IfSome}
 use Rattle.aw_out.specs.Edge.{Gets, GetsPrefix}
 use Rattle.aw_term.specs.Artifacts.{Words}
 use Rattle.aw_term.specs.Rules.{Grammar}
@@ -11,8 +11,6 @@ use Rattle.aw_front.specs.declared.reply.Status.TheVariants.{Done, WriteFault}
 use Rattle.aw_run.specs.declared.words.Command.{Command}
 use Rattle.aw_run.specs.declared.words.Command.TheVariants.{Reads, Tries, Serves, Keeps, Carries}
 use Rattle.aw_run.specs.declared.words.Job.{Job}
-use Rattle.aw_run.specs.declared.words.Job.TheVariants.{Tells}
-use Rattle.aw_run.specs.declared.words.Telling.TheVariants as telling
 use Rattle.aw_run.specs.declared.reply.Stop.{Stop}
 use Rattle.aw_run.specs.Words.{command_of, role_word}
 use Rattle.aw_run.specs.OfInputs.{ForInput, WritesSome}
@@ -78,9 +76,9 @@ Wrote job r = IfDone (Reads job) r (λ input. WritesSome job input (HasWritten r
 abbrev pub WroteWith : Job → (Types → Words → Grammar → Bool → List Event → Type 0) → Run → Type 0
 WroteWith job F r = IfDone (Reads job) r (λ input. WritesWith F job input (HasWritten r))
 
--- A replay that is done has written the output of the events that its input spells, and of these F holds.
+-- A replay that is done has written the output of the events that its input spells, and of these F holds. The word `replay` asks for it.
 abbrev pub Replayed : (Types → Words → Grammar → Bool → List Event → Type 0) → Run → Type 0
-Replayed F r = IfDone (Reads (Tells telling.Replayed)) r (λ input. ReplaysWith F input (HasWritten r))
+Replayed F r = r.words ≡ codes "replay" ∷ [] → r.status ≡ Done → ForInput r.left (λ input. ReplaysWith F input (HasWritten r))
 
 -- A trial that is done has written its summary.
 abbrev pub Tried : Run → Type 0
