@@ -97,4 +97,4 @@ Says-replayed F one left said Q kept done text_has =
 
 -- the word `replay` spells the command
 pub asks-replay : (words : List (List ℕ)) → words ≡ codes "replay" ∷ [] → command_of words ≡ Some (Reads (Tells Replayed))
-asks-replay words is = subst (λ ws. command_of ws ≡ Some (Reads (Tells Replayed))) (sym is) refl
+asks-replay words is = subst (λ (ws : List (List ℕ)). command_of ws ≡ Some (Reads (Tells Replayed))) (sym is) refl
