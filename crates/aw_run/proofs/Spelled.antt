@@ -22,7 +22,7 @@ use Rattle.aw_front.specs.declared.reply.Status.TheVariants.{Done}
 use Rattle.aw_run.specs.declared.words.Command.TheVariants.{Reads}
 use Rattle.aw_run.specs.declared.words.Job.TheVariants.{Tells}
 use Rattle.aw_run.specs.declared.words.Telling.TheVariants.{Replayed}
-use Rattle.aw_front.specs.Output.{Output, Writes, PastInputLimit, PastOutputLimit, ByFault, ByTypes, BySpecification, ByInput, IfAccepted}
+use Rattle.aw_front.specs.Output.{Writes, PastInputLimit, PastOutputLimit, ByFault, ByTypes, BySpecification, ByInput, IfAccepted}
 use Rattle.aw_run.specs.Words.{command_of}
 use Rattle.aw_run.specs.Output.{IsOutputOf, Makes, TellsSchedule, by_schedule}
 use Rattle.aw_run.specs.OfInputs.{ForInput}
