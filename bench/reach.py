@@ -37,7 +37,7 @@ HEAD = """# What has to be read
 
 Written by `bench/reach.py`, which `ci/pages` runs. A clause says no more than its definitions: whoever wants to trust a clause of `aw_run::run` has to read these, and none of the proofs. The script goes from the names in a clause through the names in their definitions, down to the words of the kit's library. *Lines* are those of the definitions themselves that are neither empty nor a comment; of a type of the program its declaration counts, or the value that contracts see it as, and of a trait its ghost members.
 
-Begin with `aw_term` (Trees, Matching, Choices, Configs, Runs); then `aw_law_sites` (Sites, Choosing, Receiving, Reacting, Worlds, Outputs), and last `aw_run` (Promises), which the clauses cite. [MODEL](MODEL.md) has them in words.
+Begin with `aw_term` (Trees, Matching, Choices, Configs, Runs); then `aw_law_sites` (Sites, Choosing, Receiving, Reacting, Worlds, Outputs), and last `aw_run` (Runs, Promises), which the clauses cite. [MODEL](MODEL.md) has them in words.
 """
 
 WORD = re.compile(r"[^\W\d][\w'-]*(?:\.[^\W\d][\w'-]*)*")

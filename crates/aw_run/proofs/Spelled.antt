@@ -1,5 +1,6 @@
 -- What the input of a replay spells that is done.
-use Rattle.std.proofs.Common.{◌≡◌, ◌≤◌, ℕ, Bool, true, false, cond, nat_lt, List, length, drop, MatchBool, Option, None, Some, refl, sym, subst}
+use Rattle.std.proofs.Common.{◌≡◌, ◌≤◌, ℕ, Bool, true, false, cond, nat_lt, List, length, drop, MatchBool, Option, None, Some, refl, sym, subst, [], ◌∷◌}
+use Rattle.std.specs.Prelude.{codes}
 use Rattle.std.proofs.lemmas.Bool.{ltb-false}
 use Rattle.aw_lex.specs.Lines.{lines_of}
 use Rattle.aw_term.specs.Artifacts.{Words}
@@ -18,9 +19,11 @@ use Rattle.aw_out.specs.declared.report.TheConstants.{OUTPUT_LIMIT}
 use Rattle.aw_front.specs.declared.limit.TheConstants.{INPUT_LIMIT}
 use Rattle.aw_front.specs.declared.reply.Reply.{Reply}
 use Rattle.aw_front.specs.declared.reply.Status.TheVariants.{Done}
+use Rattle.aw_run.specs.declared.words.Command.TheVariants.{Reads}
 use Rattle.aw_run.specs.declared.words.Job.TheVariants.{Tells}
 use Rattle.aw_run.specs.declared.words.Telling.TheVariants.{Replayed}
-use Rattle.aw_front.specs.Output.{Output, Writes, PastInputLimit, PastOutputLimit, ByFault, ByTypes, BySpecification, ByInput, IfAccepted}
+use Rattle.aw_front.specs.Output.{Writes, PastInputLimit, PastOutputLimit, ByFault, ByTypes, BySpecification, ByInput, IfAccepted}
+use Rattle.aw_run.specs.Words.{command_of}
 use Rattle.aw_run.specs.Output.{IsOutputOf, Makes, TellsSchedule, by_schedule}
 use Rattle.aw_run.specs.OfInputs.{ForInput}
 use Rattle.aw_run.specs.Promises.{OfEvents, OfRead, OfReading, OfSchedule, Promises, RepliesKeeping, ReplaysWith, WritesWith}
@@ -91,3 +94,7 @@ pub Says-replayed : (F : Fact) → ((t : Types) (w : Words) (g : Grammar) (loads
     ForInput left (λ input. RepliesKeeping (Tells Replayed) input said) → said.status ≡ Done → Q said.text → ForInput left (λ input. ReplaysWith F input Q)
 Says-replayed F one left said Q kept done text_has =
     of_input left (λ input. WritesWith F (Tells Replayed) input Q) (λ input. ReplaysWith F input Q) (spelled F Q) (Says-kept F one left Replayed said Q kept done text_has)
+
+-- the word `replay` spells the command
+pub asks-replay : (words : List (List ℕ)) → words ≡ codes "replay" ∷ [] → command_of words ≡ Some (Reads (Tells Replayed))
+asks-replay words is = subst (λ (ws : List (List ℕ)). command_of ws ≡ Some (Reads (Tells Replayed))) (sym is) refl

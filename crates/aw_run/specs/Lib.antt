@@ -13,5 +13,6 @@ pub mod Replies
 pub mod Unread
 pub mod Unserved
 pub mod Promises
+pub mod Runs
 pub mod Scheduled
 pub mod Laws

@@ -1,7 +1,6 @@
 -- What is promised of the events that an input spells behind a good specification, apart from what is written of them.
-use Rattle.std.specs.Prelude.{◌≡◌, ℕ, suc, ◌+◌, ◌≤◌, Bool, true, List, [], ◌∷◌, ◌++◌, length, take, drop, Option, Some, None, ◌⊎◌}
+use Rattle.std.specs.Prelude.{◌≡◌, ℕ, suc, ◌+◌, ◌≤◌, Bool, true, List, [], ◌∷◌, ◌++◌, length, take, drop, Some, None, ◌⊎◌}
 use Rattle.aw_list.specs.Members.{Member}
-use Rattle.aw_out.specs.Edge.{Gets}
 use Rattle.aw_out.specs.declared.report.TheConstants.{OUTPUT_LIMIT}
 use Rattle.aw_lex.specs.Lines.{lines_of}
 use Rattle.aw_term.specs.Trees.{Never}
@@ -32,18 +31,13 @@ use Rattle.aw_law_worlds.specs.Holding.{EquationsStay, NodesStay, HoldsConfig, M
 use Rattle.aw_replay.specs.Settling.{SettlingEnds}
 use Rattle.aw_replay.specs.ChoicesIn.{choices_in}
 use Rattle.aw_front.specs.declared.limit.TheConstants.{INPUT_LIMIT}
-use Rattle.aw_run.specs.Words.{command_of}
 use Rattle.aw_run.specs.Output.{IsOutputOf}
-use Rattle.aw_run.specs.OfInputs.{ForInput, WritesSome}
+use Rattle.aw_run.specs.OfInputs.{WritesSome}
 use Rattle.aw_front.specs.Replies.{Replies}
 use Rattle.aw_front.specs.declared.reply.Reply.{Reply}
-use Rattle.aw_front.specs.declared.reply.Status.{Status}
 use Rattle.aw_front.specs.declared.reply.Status.TheVariants.{Done}
-use Rattle.aw_run.specs.declared.words.Command.{Command}
-use Rattle.aw_run.specs.declared.words.Command.TheVariants.{Reads}
 use Rattle.aw_run.specs.declared.words.Job.{Job}
 use Rattle.aw_run.specs.declared.words.Job.TheVariants.{Check, Tells}
-use Rattle.aw_run.specs.declared.words.Telling.TheVariants as Telling
 
 -- Of a specification with these types, words and grammar, with loads or without, and of the events behind it:
 
@@ -162,14 +156,6 @@ RepliesKeeping job input said = Replies (IsOutputOf job input) said × (said.sta
 abbrev pub WritesWith : (Types → Words → Grammar → Bool → List Event → Type 0) → Job → List ℕ → (List ℕ → Type 0) → Type 0
 WritesWith F job input P = WritesSome job input P × OfEvents F input
 
--- where these are the words of a command that does the job and it is done, it has written the text that the job makes of the input
-abbrev pub DoneBy : Job → Option Command → Status → Option (List ℕ) → (List ℕ → Type 0) → Type 0
-DoneBy job said result left P = said ≡ Some (Reads job) → result ≡ Done → ForInput left (λ input. WritesSome job input P)
-
--- and of the events that the input spells F holds
-abbrev pub DoneWith : (Types → Words → Grammar → Bool → List Event → Type 0) → Job → Option Command → Status → Option (List ℕ) → (List ℕ → Type 0) → Type 0
-DoneWith F job said result left P = said ≡ Some (Reads job) → result ≡ Done → ForInput left (λ input. WritesWith F job input P)
-
 -- A replay of the input writes this text: the input is within its limit and spells a specification, whose types have no fault and whose
 -- grammar has no circle, and behind it these events; and the text is their whole output, within its limit.
 pub record IsReplayOf (input : List ℕ) (s : Spec) (loads : Bool) (es : List Event) (text : List ℕ) : Type 0 where
@@ -184,27 +170,3 @@ pub record IsReplayOf (input : List ℕ) (s : Spec) (loads : Bool) (es : List Ev
 abbrev pub ReplaysWith : (Types → Words → Grammar → Bool → List Event → Type 0) → List ℕ → (List ℕ → Type 0) → Type 0
 ReplaysWith F input P =
     (s : Spec) × (loads : Bool) × (es : List Event) × (text : List ℕ) × IsReplayOf input s loads es text × P text × F (types_of s.types) (words_in s.declared) (grammar_in s.declared) loads es
-
--- one run: the command that its words are, what was left to read, how it ended, and what the sink had been written before it and after it
-pub record Run : Type 0 where
-  pub command : Option Command
-  pub left : Option (List ℕ)
-  pub status : Status
-  pub before : Option (List ℕ)
-  pub after : Option (List ℕ)
-
--- the run of these words on what was left to read, with this end
-abbrev pub ran : List (List ℕ) → Option (List ℕ) → Status → Option (List ℕ) → Option (List ℕ) → Run
-ran words left status before after = record { command = command_of words; left = left; status = status; before = before; after = after }
-
--- a run by these words that does the job and is done has written the text that the job makes of the input
-abbrev pub Wrote : Job → Run → Type 0
-Wrote job r = DoneBy job r.command r.status r.left (Gets r.before r.after)
-
--- and of the events that the input spells F holds
-abbrev pub WroteWith : Job → (Types → Words → Grammar → Bool → List Event → Type 0) → Run → Type 0
-WroteWith job F r = DoneWith F job r.command r.status r.left (Gets r.before r.after)
-
--- a replay that is done has written the output of the events that its input spells, and of these F holds
-abbrev pub Replayed : (Types → Words → Grammar → Bool → List Event → Type 0) → Run → Type 0
-Replayed F r = r.command ≡ Some (Reads (Tells Telling.Replayed)) → r.status ≡ Done → ForInput r.left (λ input. ReplaysWith F input (Gets r.before r.after))

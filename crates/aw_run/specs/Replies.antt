@@ -1,6 +1,5 @@
 -- What a run says to an input.
 use Rattle.std.specs.Prelude.{◌≡◌, ◌⊎◌, ℕ, List, Option, Some, None, codes, Bool, true, false}
-use Rattle.aw_out.specs.Edge.{Gets}
 use Rattle.aw_out.specs.Causes.{Rose}
 pub use Rattle.aw_run.specs.OfInputs.{ForInput, WritesSome}
 use Rattle.aw_front.specs.Replies.{Replies, reply, reply_with}
@@ -121,11 +120,6 @@ abbrev pub IsDoneOrStopped : Option Command → Status → Type 0
 IsDoneOrStopped command status =
     (status ≡ Done) ⊎ (status ≡ NoMemory) ⊎ (status ≡ ReadFault) ⊎ (status ≡ WriteFault)
     ⊎ ((status ≡ NetFault) × (uses_wire command ≡ true)) ⊎ (IsJournalStop status × (uses_disk command ≡ true)) ⊎ ((status ≡ BadReply) × (carries command ≡ true))
-
--- the run told the status of this reply, and wrote its text whole
-pub record Replied (said : Reply) (status : Status) (old new : Option (List ℕ)) : Type 0 where
-  pub told : status ≡ said.status
-  pub written : Gets old new said.text
 
 -- the node of this role makes a text of the input and of the wire, and that text has P
 abbrev pub WritesServing : (name : List ℕ) → (sessions : ℕ) → Wired → List ℕ → (List ℕ → Type 0) → Type 0

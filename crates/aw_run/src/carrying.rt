@@ -1,12 +1,11 @@
 //! The command that carries messages between the nodes of all roles.
 ghost use Rattle.std.specs.Prelude.{◌≡◌, ◌≢◌, ◌≤◌, [], IfOk, IfErr, length};
-ghost use Rattle.aw_grammar.specs.GrammarOf.{declarations_of};
-ghost use Rattle.aw_spec.specs.Reading.{Spec};
 ghost use Rattle.aw_out.specs.Causes.{Rose};
 ghost use Rattle.aw_out.specs.Edge.{IsUsedUp, GivesSome};
 ghost use Rattle.aw_run.specs.Devices.{wired};
 ghost use Rattle.aw_run.specs.Carrying.{CarriesOver, IsCarryingOutputOf, StopsCarrying, StopsCourier, carried_line};
-ghost use Rattle.aw_run.specs.Replies.{ForInput};
+ghost use Rattle.aw_run.specs.OfInputs.{RepliesTo, StopsBy, StopsFor};
+ghost use Rattle.aw_run.specs.Opening.{ForDeclared};
 ghost use Rattle.aw_front.specs.Replies.{Replies};
 ghost use Rattle.aw_run.specs.Statuses.{IsReply, IsSilent, IsPastReading, IsRefusal, IsJournalStop, status_of_stop};
 
@@ -35,13 +34,13 @@ fn carry_accepted<W: Wire>(
     rounds: u64,
     wire: &mut W,
 ) -> Result<Reply, Stop>
-    ensures reply { IfOk result (λ reply. (s : Spec) → s.declared ≡ declarations_of accepted.now.grammar →
-        Replies (CarriesOver rounds (wired ⟦<W as Wire>⟧ wire.old wire.new) s) reply) }
+    ensures reply { IfOk result (λ reply. ForDeclared accepted.now.grammar (λ s.
+        Replies (CarriesOver rounds (wired ⟦<W as Wire>⟧ wire.old wire.new) s) reply)) }
     ensures is_reply { IfOk result (λ reply. IsReply reply.status) }
     ensures never_refused { IfOk result (λ reply. IsRefusal reply.status → ⊥) }
     ensures never_silent { IfOk result (λ reply. IsSilent reply.status → ⊥) }
-    ensures stopped { IfErr result (λ stop. (s : Spec) → s.declared ≡ declarations_of accepted.now.grammar →
-        StopsCourier s rounds (wired ⟦<W as Wire>⟧ wire.old wire.new) (status_of_stop stop)) }
+    ensures stopped { IfErr result (λ stop. ForDeclared accepted.now.grammar (λ s.
+        StopsBy (StopsCourier s rounds (wired ⟦<W as Wire>⟧ wire.old wire.new)) stop)) }
     ensures net_cause { result ≡ Err Stop.NetFault → Rose (W.faults wire.old) (W.faults wire.new) }
     ensures net_kept { result ≢ Err Stop.NetFault → W.faults wire.new ≡ W.faults wire.old }
     ensures no_read_fault { result ≢ Err Stop.ReadFault }
@@ -90,8 +89,7 @@ pub fn carry_source<S: Source, W: Wire>(
     src: &mut S,
     wire: &mut W,
 ) -> Result<Reply, Stop>
-    ensures reply { IfOk result (λ reply. ForInput (S.left src.old) (λ input.
-        Replies (IsCarryingOutputOf rounds (wired ⟦<W as Wire>⟧ wire.old wire.new) input) reply)) }
+    ensures reply { IfOk result (RepliesTo (S.left src.old) (IsCarryingOutputOf rounds (wired ⟦<W as Wire>⟧ wire.old wire.new))) }
     ensures is_reply { IfOk result (λ reply. IsReply reply.status) }
     ensures silent { IfOk result (λ reply. IsSilent reply.status → reply.text ≡ []) }
     ensures end { IfOk result (λ reply. IsPastReading reply.status → IsUsedUp (S.left src.new)) }
@@ -99,8 +97,7 @@ pub fn carry_source<S: Source, W: Wire>(
     ensures kept { result ≢ Err Stop.ReadFault → S.faults src.new ≡ S.faults src.old }
     ensures read_before { result ≡ Err Stop.ReadFault → GivesSome (S.left src.old) (S.left src.new) (λ bytes. length bytes ≤ INPUT_LIMIT) }
     ensures refused { IfOk result (λ reply. IsRefusal reply.status → wire.new ≡ wire.old) }
-    ensures stopped { IfErr result (λ stop. ForInput (S.left src.old) (λ input.
-        StopsCarrying rounds (wired ⟦<W as Wire>⟧ wire.old wire.new) input (status_of_stop stop))) }
+    ensures stopped { IfErr result (StopsFor (S.left src.old) (StopsCarrying rounds (wired ⟦<W as Wire>⟧ wire.old wire.new))) }
     ensures unread { result ≡ Err Stop.ReadFault → wire.new ≡ wire.old }
     ensures stop_end { IfErr result (λ stop. IsPastReading (status_of_stop stop) → IsUsedUp (S.left src.new)) }
     ensures net_cause { result ≡ Err Stop.NetFault → Rose (W.faults wire.old) (W.faults wire.new) }

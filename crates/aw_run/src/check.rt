@@ -82,7 +82,7 @@ fn tell_specification(
     requires relation { IsRelation accepted.now.grammar accepted.now.io }
     requires faces { face_fault (grammar_of accepted.now.grammar) faces.now.offers faces.now.uses ≡ None }
     requires range { Each (IsPosition (grammar_of accepted.now.grammar).sorts) depends.now }
-    ensures { IfOk result (λ reply. Replies (WritesChecked depends.now faces.now.offers free (words_of accepted.now.grammar) (grammar_of accepted.now.grammar)) reply) }
+    ensures { IfOk result (Replies (WritesChecked depends.now faces.now.offers free (words_of accepted.now.grammar) (grammar_of accepted.now.grammar))) }
 {
     Ok(Reply {
         status: Status::Done,
@@ -124,7 +124,8 @@ fn tell_asked(alloc: Global, accepted: &Accepted, asked: &Asked) -> Result<Reply
     requires relation { IsRelation accepted.now.grammar accepted.now.io }
     requires faces { face_fault (grammar_of accepted.now.grammar) asked.now.faces.offers asked.now.faces.uses ≡ None }
     requires range { Each (IsPosition (grammar_of accepted.now.grammar).sorts) asked.now.depends }
-    ensures { IfOk result (λ reply. Replies (WritesChecked asked.now.depends asked.now.faces.offers asked.now.free (words_of accepted.now.grammar) (grammar_of accepted.now.grammar)) reply) }
+    ensures { IfOk result (Replies
+        (WritesChecked asked.now.depends asked.now.faces.offers asked.now.free (words_of accepted.now.grammar) (grammar_of accepted.now.grammar))) }
 {
     tell_specification(alloc, accepted, &asked.faces, &asked.depends, asked.free)
 }

@@ -1,14 +1,13 @@
 //! The command that serves the workspace of a role over a wire and keeps it on a disk.
 ghost use Rattle.std.specs.Prelude.{◌≡◌, ◌≢◌, ◌≤◌, ◌<◌, [], IfOk, IfErr, length};
-ghost use Rattle.aw_grammar.specs.GrammarOf.{grammar_of, declarations_of};
+ghost use Rattle.aw_grammar.specs.GrammarOf.{grammar_of};
 ghost use Rattle.aw_typed.specs.Typing.{IsMadeFor};
-ghost use Rattle.aw_spec.specs.Reading.{Spec};
-ghost use Rattle.aw_spec_writer.specs.SpecLines.{written};
 ghost use Rattle.aw_out.specs.Causes.{Rose};
 ghost use Rattle.aw_out.specs.Edge.{IsUsedUp, GivesSome};
 ghost use Rattle.aw_run.specs.Devices.{around};
 ghost use Rattle.aw_run.specs.Keeping.{IsKeepingOutputOf, KeepsNamed, KeepsRole, StopsKeeping, StopsNamed, StopsRole};
-ghost use Rattle.aw_run.specs.Replies.{ForInput};
+ghost use Rattle.aw_run.specs.OfInputs.{RepliesTo, StopsBy, StopsFor};
+ghost use Rattle.aw_run.specs.Opening.{ForWritten};
 ghost use Rattle.aw_front.specs.Replies.{Replies};
 ghost use Rattle.aw_run.specs.Statuses.{IsReply, IsSilent, IsPastReading, IsRefusal, status_of_stop};
 
@@ -36,11 +35,11 @@ fn keep_role<W: Wire, D: Disk>(
 ) -> Result<Reply, Stop>
     requires role { role < (grammar_of accepted.now.grammar).roles }
     requires made { IsMadeFor (grammar_of accepted.now.grammar) typed.now }
-    ensures reply { IfOk result (λ reply. (s : Spec) → s.declared ≡ declarations_of accepted.now.grammar → s.types ≡ typed.now.types → text.now ≡ written s →
-        Replies (KeepsRole s role sessions (around ⟦<W as Wire>⟧ ⟦<D as Disk>⟧ wire.old wire.new disk.old disk.new)) reply) }
+    ensures reply { IfOk result (λ reply. ForWritten accepted.now.grammar typed.now.types text.now (λ s.
+        Replies (KeepsRole s role sessions (around ⟦<W as Wire>⟧ ⟦<D as Disk>⟧ wire.old wire.new disk.old disk.new)) reply)) }
     ensures done { IfOk result (λ reply. reply.status ≡ Status.Done) }
-    ensures stopped { IfErr result (λ stop. (s : Spec) → s.declared ≡ declarations_of accepted.now.grammar → s.types ≡ typed.now.types → text.now ≡ written s →
-        StopsRole s role sessions (around ⟦<W as Wire>⟧ ⟦<D as Disk>⟧ wire.old wire.new disk.old disk.new) (status_of_stop stop)) }
+    ensures stopped { IfErr result (λ stop. ForWritten accepted.now.grammar typed.now.types text.now (λ s.
+        StopsBy (StopsRole s role sessions (around ⟦<W as Wire>⟧ ⟦<D as Disk>⟧ wire.old wire.new disk.old disk.new)) stop)) }
     ensures net_cause { result ≡ Err Stop.NetFault → Rose (W.failed_openings wire.old) (W.failed_openings wire.new) }
     ensures net_kept { result ≢ Err Stop.NetFault → W.failed_openings wire.new ≡ W.failed_openings wire.old }
     ensures disk_cause { result ≡ Err Stop.DiskFault → Rose (D.faults disk.old) (D.faults disk.new) }
@@ -68,11 +67,11 @@ fn keep_named<W: Wire, D: Disk>(
     disk: &mut D,
 ) -> Result<Reply, Stop>
     requires made { IsMadeFor (grammar_of accepted.now.grammar) typed.now }
-    ensures reply { IfOk result (λ reply. (s : Spec) → s.declared ≡ declarations_of accepted.now.grammar → s.types ≡ typed.now.types → text.now ≡ written s →
-        Replies (KeepsNamed name.now sessions (around ⟦<W as Wire>⟧ ⟦<D as Disk>⟧ wire.old wire.new disk.old disk.new) s) reply) }
+    ensures reply { IfOk result (λ reply. ForWritten accepted.now.grammar typed.now.types text.now (λ s.
+        Replies (KeepsNamed name.now sessions (around ⟦<W as Wire>⟧ ⟦<D as Disk>⟧ wire.old wire.new disk.old disk.new) s) reply)) }
     ensures refused { IfOk result (λ reply. IsRefusal reply.status → (wire.new ≡ wire.old) × (disk.new ≡ disk.old)) }
-    ensures stopped { IfErr result (λ stop. (s : Spec) → s.declared ≡ declarations_of accepted.now.grammar → s.types ≡ typed.now.types → text.now ≡ written s →
-        StopsNamed name.now sessions (around ⟦<W as Wire>⟧ ⟦<D as Disk>⟧ wire.old wire.new disk.old disk.new) s (status_of_stop stop)) }
+    ensures stopped { IfErr result (λ stop. ForWritten accepted.now.grammar typed.now.types text.now (λ s.
+        StopsBy (StopsNamed name.now sessions (around ⟦<W as Wire>⟧ ⟦<D as Disk>⟧ wire.old wire.new disk.old disk.new) s) stop)) }
     ensures net_cause { result ≡ Err Stop.NetFault → Rose (W.failed_openings wire.old) (W.failed_openings wire.new) }
     ensures net_kept { result ≢ Err Stop.NetFault → W.failed_openings wire.new ≡ W.failed_openings wire.old }
     ensures disk_cause { result ≡ Err Stop.DiskFault → Rose (D.faults disk.old) (D.faults disk.new) }
@@ -95,11 +94,9 @@ fn keep_input<W: Wire, D: Disk>(
     disk: &mut D,
 ) -> Result<Reply, Stop>
     requires within { length input.now ≤ INPUT_LIMIT }
-    ensures reply { IfOk result (λ reply.
-        Replies (IsKeepingOutputOf name.now sessions (around ⟦<W as Wire>⟧ ⟦<D as Disk>⟧ wire.old wire.new disk.old disk.new) input.now) reply) }
+    ensures reply { IfOk result (Replies (IsKeepingOutputOf name.now sessions (around ⟦<W as Wire>⟧ ⟦<D as Disk>⟧ wire.old wire.new disk.old disk.new) input.now)) }
     ensures refused { IfOk result (λ reply. IsRefusal reply.status → (wire.new ≡ wire.old) × (disk.new ≡ disk.old)) }
-    ensures stopped { IfErr result (λ stop.
-        StopsKeeping name.now sessions (around ⟦<W as Wire>⟧ ⟦<D as Disk>⟧ wire.old wire.new disk.old disk.new) input.now (status_of_stop stop)) }
+    ensures stopped { IfErr result (StopsBy (StopsKeeping name.now sessions (around ⟦<W as Wire>⟧ ⟦<D as Disk>⟧ wire.old wire.new disk.old disk.new) input.now)) }
     ensures net_cause { result ≡ Err Stop.NetFault → Rose (W.failed_openings wire.old) (W.failed_openings wire.new) }
     ensures net_kept { result ≢ Err Stop.NetFault → W.failed_openings wire.new ≡ W.failed_openings wire.old }
     ensures disk_cause { result ≡ Err Stop.DiskFault → Rose (D.faults disk.old) (D.faults disk.new) }
@@ -135,8 +132,8 @@ pub fn keep_source<S: Source, W: Wire, D: Disk>(
     wire: &mut W,
     disk: &mut D,
 ) -> Result<Reply, Stop>
-    ensures reply { IfOk result (λ reply. ForInput (S.left src.old) (λ input.
-        Replies (IsKeepingOutputOf name.now sessions (around ⟦<W as Wire>⟧ ⟦<D as Disk>⟧ wire.old wire.new disk.old disk.new) input) reply)) }
+    ensures reply { IfOk result (RepliesTo (S.left src.old)
+        (IsKeepingOutputOf name.now sessions (around ⟦<W as Wire>⟧ ⟦<D as Disk>⟧ wire.old wire.new disk.old disk.new))) }
     ensures is_reply { IfOk result (λ reply. IsReply reply.status) }
     ensures silent { IfOk result (λ reply. IsSilent reply.status → reply.text ≡ []) }
     ensures end { IfOk result (λ reply. IsPastReading reply.status → IsUsedUp (S.left src.new)) }
@@ -144,8 +141,8 @@ pub fn keep_source<S: Source, W: Wire, D: Disk>(
     ensures kept { result ≢ Err Stop.ReadFault → S.faults src.new ≡ S.faults src.old }
     ensures read_before { result ≡ Err Stop.ReadFault → GivesSome (S.left src.old) (S.left src.new) (λ bytes. length bytes ≤ INPUT_LIMIT) }
     ensures refused { IfOk result (λ reply. IsRefusal reply.status → (wire.new ≡ wire.old) × (disk.new ≡ disk.old)) }
-    ensures stopped { IfErr result (λ stop. ForInput (S.left src.old) (λ input.
-        StopsKeeping name.now sessions (around ⟦<W as Wire>⟧ ⟦<D as Disk>⟧ wire.old wire.new disk.old disk.new) input (status_of_stop stop))) }
+    ensures stopped { IfErr result (StopsFor (S.left src.old)
+        (StopsKeeping name.now sessions (around ⟦<W as Wire>⟧ ⟦<D as Disk>⟧ wire.old wire.new disk.old disk.new))) }
     ensures unread { result ≡ Err Stop.ReadFault → (wire.new ≡ wire.old) × (disk.new ≡ disk.old) }
     ensures stop_end { IfErr result (λ stop. IsPastReading (status_of_stop stop) → IsUsedUp (S.left src.new)) }
     ensures net_cause { result ≡ Err Stop.NetFault → Rose (W.failed_openings wire.old) (W.failed_openings wire.new) }

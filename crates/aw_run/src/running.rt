@@ -1,17 +1,14 @@
 //! The top call.
-ghost use Rattle.std.specs.Prelude.{ℕ, ◌≡◌, ◌≢◌, ◌≤◌, ◌⊎◌, [], IfOk, IfErr, IfSome, Some, false, true, length};
+ghost use Rattle.std.specs.Prelude.{◌≡◌, ◌≢◌, ◌≤◌, ◌⊎◌, [], IfOk, IfErr, false, true, length};
 ghost use Rattle.aw_out.specs.Causes.{Rose};
 ghost use Rattle.aw_out.specs.Edge.{IsUsedUp, GivesSome, Gets, GetsPrefix};
-ghost use Rattle.aw_run.specs.Trials.{trial_text};
 ghost use Rattle.aw_run.specs.Words.{command_of, role_word};
-ghost use Rattle.aw_run.specs.Carrying.{StopsCarrying};
-ghost use Rattle.aw_run.specs.Keeping.{StopsKeeping};
-ghost use Rattle.aw_run.specs.Statuses.{IsReply, IsPastReading, IsSilent, IsStop, IsJournalStop, IsRefusal, status_of_stop};
-ghost use Rattle.aw_run.specs.Promises.{PlainIsTyped, RepliesKeeping, ReplayIsTyped, Replayed, Wrote, WroteWith, ran};
-ghost use Rattle.aw_run.specs.Promises.{ArrivalsAnswer, KnowledgeStays, MessagesStayFew, NothingCircles, RulesStayEnabled, Settled, SitesAnswerAsOne, SitesMerge, StartsStayEnabled, StaysAcyclic, WritesAnyOrder};
-ghost use Rattle.aw_run.specs.Replies.{EndsWith, ForInput, IsDoneOrStopped, IsGood, NetFailed, NetKept, Replied, Says, SomeReply, WritesCarrying, WritesKeeping, WritesServing};
-ghost use Rattle.aw_run.specs.Replies.{around, reads, uses_disk, uses_wire, wired};
-ghost use Rattle.aw_run.specs.Unserved.{StopsServing};
+ghost use Rattle.aw_run.specs.Statuses.{IsReply, IsPastReading, IsSilent, IsJournalStop, IsRefusal, status_of_stop};
+ghost use Rattle.aw_run.specs.Promises.{ArrivalsAnswer, KnowledgeStays, MessagesStayFew, NothingCircles, PlainIsTyped, ReplayIsTyped};
+ghost use Rattle.aw_run.specs.Promises.{RulesStayEnabled, Settled, SitesAnswerAsOne, SitesMerge, StartsStayEnabled, StaysAcyclic, WritesAnyOrder};
+ghost use Rattle.aw_run.specs.Replies.{NetFailed, NetKept, around, reads, uses_disk, uses_wire, wired};
+ghost use Rattle.aw_run.specs.Runs.{Answered, CarriedAll, CarryingStopped, Completed, CutOff, EndedAsAsked, KeepingStopped, Replayed, Served, ServedKept};
+ghost use Rattle.aw_run.specs.Runs.{CourierFails, KeepsPromises, KeptNodeFails, MaySay, NodeFails, ServingStopped, Tried, Wrote, WroteWith, ran};
 
 use crate::carrying::carry_source;
 use crate::keeping::keep_source;
@@ -33,9 +30,8 @@ fn prepare<S: Source, W: Wire, D: Disk>(
     wire: &mut W,
     disk: &mut D,
 ) -> Result<Reply, Stop>
-    ensures reply { IfOk result (λ reply. ForInput (S.left src.old) (λ input.
-        Says words.now input (around ⟦<W as Wire>⟧ ⟦<D as Disk>⟧ wire.old wire.new disk.old disk.new) reply)) }
-    ensures promises { IfOk result (λ reply. (job : Job) → command_of words.now ≡ Some (Command.Reads job) → ForInput (S.left src.old) (λ input. RepliesKeeping job input reply)) }
+    ensures reply { IfOk result (MaySay words.now (S.left src.old) (around ⟦<W as Wire>⟧ ⟦<D as Disk>⟧ wire.old wire.new disk.old disk.new)) }
+    ensures promises { IfOk result (KeepsPromises words.now (S.left src.old)) }
     ensures is_reply { IfOk result (λ reply. IsReply reply.status) }
     ensures silent { IfOk result (λ reply. IsSilent reply.status → reply.text ≡ []) }
     ensures end { IfOk result (λ reply. IsPastReading reply.status → reads (command_of words.now) ≡ true → IsUsedUp (S.left src.new)) }
@@ -54,12 +50,9 @@ fn prepare<S: Source, W: Wire, D: Disk>(
     ensures disk_command { IfErr result (λ stop. IsJournalStop (status_of_stop stop) → uses_disk (command_of words.now) ≡ true) }
     ensures refused { IfOk result (λ reply. IsRefusal reply.status → (wire.new ≡ wire.old) × (disk.new ≡ disk.old)) }
     ensures unread { result ≡ Err Stop.ReadFault → (wire.new ≡ wire.old) × (disk.new ≡ disk.old) }
-    ensures unserved { (n : ℕ) → command_of words.now ≡ Some (Command.Serves n) → IfErr result (λ stop. ForInput (S.left src.old) (λ input.
-        StopsServing (role_word words.now) n (wired ⟦<W as Wire>⟧ wire.old wire.new) input (status_of_stop stop))) }
-    ensures stopped { (n : ℕ) → command_of words.now ≡ Some (Command.Keeps n) → IfErr result (λ stop. ForInput (S.left src.old) (λ input.
-        StopsKeeping (role_word words.now) n (around ⟦<W as Wire>⟧ ⟦<D as Disk>⟧ wire.old wire.new disk.old disk.new) input (status_of_stop stop))) }
-    ensures broken { (n : ℕ) → command_of words.now ≡ Some (Command.Carries n) → IfErr result (λ stop. ForInput (S.left src.old) (λ input.
-        StopsCarrying n (wired ⟦<W as Wire>⟧ wire.old wire.new) input (status_of_stop stop))) }
+    ensures unserved { NodeFails words.now (S.left src.old) (wired ⟦<W as Wire>⟧ wire.old wire.new) result }
+    ensures stopped { KeptNodeFails words.now (S.left src.old) (around ⟦<W as Wire>⟧ ⟦<D as Disk>⟧ wire.old wire.new disk.old disk.new) result }
+    ensures broken { CourierFails words.now (S.left src.old) (wired ⟦<W as Wire>⟧ wire.old wire.new) result }
     ensures stop_end { IfErr result (λ stop. IsPastReading (status_of_stop stop) → IsUsedUp (S.left src.new)) }
     ensures never_falls { S.faults src.old ≤ S.faults src.new }
 {
@@ -79,7 +72,7 @@ fn prepare<S: Source, W: Wire, D: Disk>(
     }
 }
 
-/// Writes the reply, and tells its status once it was written whole.
+/// Writes the reply, and returns its status once it was written whole.
 fn deliver<K: Sink>(out: &mut K, reply: &Reply) -> Status
     requires { IsReply reply.now.status }
     ensures status { result ≡ reply.now.status ⊎ result ≡ Status.WriteFault }
@@ -107,12 +100,12 @@ pub fn run<S: Source, K: Sink, W: Wire, D: Disk>(
     disk: &mut D,
 ) -> Status
     // The status, and what was written, are those of a reply to what was left to read.
-    ensures reply { IsReply result → ForInput (S.left src.old) (λ input.
-        SomeReply words.now input (around ⟦<W as Wire>⟧ ⟦<D as Disk>⟧ wire.old wire.new disk.old disk.new) (λ said.
-        Replied said result (K.written out.old) (K.written out.new))) }
+    ensures reply { Answered (ran words.now (S.left src.old) result (K.written out.old) (K.written out.new))
+        (around ⟦<W as Wire>⟧ ⟦<D as Disk>⟧ wire.old wire.new disk.old disk.new) }
 
-    // What is told of the words and of the bytes is told exactly by them.
-    ensures cause { IsReply result → ForInput (S.left src.old) (λ input. EndsWith words.now input (around ⟦<W as Wire>⟧ ⟦<D as Disk>⟧ wire.old wire.new disk.old disk.new) result) }
+    // A status that speaks of the words or of the bytes is just the one that they call for.
+    ensures cause { EndedAsAsked (ran words.now (S.left src.old) result (K.written out.old) (K.written out.new))
+        (around ⟦<W as Wire>⟧ ⟦<D as Disk>⟧ wire.old wire.new disk.old disk.new) }
 
     // A command that is done has written the whole text that it makes of its input.
     ensures check { Wrote Job.Check (ran words.now (S.left src.old) result (K.written out.old) (K.written out.new)) }
@@ -141,40 +134,36 @@ pub fn run<S: Source, K: Sink, W: Wire, D: Disk>(
     ensures typed_plain { WroteWith (Job.Tells Telling.Undivided) PlainIsTyped (ran words.now (S.left src.old) result (K.written out.old) (K.written out.new)) }
     ensures typed_replay { Replayed ReplayIsTyped (ran words.now (S.left src.old) result (K.written out.old) (K.written out.new)) }
 
-    ensures trial { (n : ℕ) → command_of words.now ≡ Some (Command.Tries n) → result ≡ Status.Done → Gets (K.written out.old) (K.written out.new) (trial_text n) }
-    // What a node tells of its sessions, and why it stops.
-    ensures node { (n : ℕ) → command_of words.now ≡ Some (Command.Serves n) → result ≡ Status.Done → ForInput (S.left src.old) (λ input.
-        WritesServing (role_word words.now) n (wired ⟦<W as Wire>⟧ wire.old wire.new) input (Gets (K.written out.old) (K.written out.new))) }
-    ensures unserved { (n : ℕ) → command_of words.now ≡ Some (Command.Serves n) → IsStop result → ForInput (S.left src.old) (λ input.
-        StopsServing (role_word words.now) n (wired ⟦<W as Wire>⟧ wire.old wire.new) input result) }
+    ensures trial { Tried (ran words.now (S.left src.old) result (K.written out.old) (K.written out.new)) }
 
-    // What a kept node tells of its sessions, and why it stops; both say what a crash leaves of its journal, at any moment of the run.
-    ensures kept { (n : ℕ) → command_of words.now ≡ Some (Command.Keeps n) → result ≡ Status.Done → ForInput (S.left src.old) (λ input.
-        WritesKeeping (role_word words.now) n (around ⟦<W as Wire>⟧ ⟦<D as Disk>⟧ wire.old wire.new disk.old disk.new) input (Gets (K.written out.old) (K.written out.new))) }
-    ensures stopped { (n : ℕ) → command_of words.now ≡ Some (Command.Keeps n) → IsStop result → ForInput (S.left src.old) (λ input.
-        StopsKeeping (role_word words.now) n (around ⟦<W as Wire>⟧ ⟦<D as Disk>⟧ wire.old wire.new disk.old disk.new) input result) }
+    // What a node writes of its sessions, and why it stops.
+    ensures node { Served (ran words.now (S.left src.old) result (K.written out.old) (K.written out.new)) (wired ⟦<W as Wire>⟧ wire.old wire.new) }
+    ensures unserved { ServingStopped (ran words.now (S.left src.old) result (K.written out.old) (K.written out.new)) (wired ⟦<W as Wire>⟧ wire.old wire.new) }
+
+    // What a kept node writes of its sessions, and why it stops; both say what a crash leaves of its journal, at any moment of the run.
+    ensures kept { ServedKept (ran words.now (S.left src.old) result (K.written out.old) (K.written out.new))
+        (around ⟦<W as Wire>⟧ ⟦<D as Disk>⟧ wire.old wire.new disk.old disk.new) }
+    ensures stopped { KeepingStopped (ran words.now (S.left src.old) result (K.written out.old) (K.written out.new))
+        (around ⟦<W as Wire>⟧ ⟦<D as Disk>⟧ wire.old wire.new disk.old disk.new) }
 
     // What a courier carried, and why it came to no end. Over a wire that was honest for a world and some choices, `quiet` means that the world is quiet.
-    ensures courier { (n : ℕ) → command_of words.now ≡ Some (Command.Carries n) → result ≡ Status.Done → ForInput (S.left src.old) (λ input.
-        WritesCarrying n (wired ⟦<W as Wire>⟧ wire.old wire.new) input (Gets (K.written out.old) (K.written out.new))) }
-    ensures broken { (n : ℕ) → command_of words.now ≡ Some (Command.Carries n) → IsStop result → ForInput (S.left src.old) (λ input.
-        StopsCarrying n (wired ⟦<W as Wire>⟧ wire.old wire.new) input result) }
+    ensures courier { CarriedAll (ran words.now (S.left src.old) result (K.written out.old) (K.written out.new)) (wired ⟦<W as Wire>⟧ wire.old wire.new) }
+    ensures broken { CarryingStopped (ran words.now (S.left src.old) result (K.written out.old) (K.written out.new)) (wired ⟦<W as Wire>⟧ wire.old wire.new) }
 
     // A command with a good input is done, unless memory runs out, the source fails or the sink does, or the wire or the disk of a command that uses it,
     // or what a courier hears is no reply.
-    ensures complete { IfSome (S.left src.old) (λ input. IsGood words.now input (around ⟦<W as Wire>⟧ ⟦<D as Disk>⟧ wire.old wire.new disk.old disk.new) →
-        IsDoneOrStopped (command_of words.now) result) }
+    ensures complete { Completed (ran words.now (S.left src.old) result (K.written out.old) (K.written out.new))
+        (around ⟦<W as Wire>⟧ ⟦<D as Disk>⟧ wire.old wire.new disk.old disk.new) }
 
-    // The source failed before it gave too much, and only a command that reads tells of it.
+    // The source failed before it gave too much, and only a command that reads reports it.
     ensures read_fault { result ≡ Status.ReadFault → Rose (S.faults src.old) (S.faults src.new) }
     ensures read_before { result ≡ Status.ReadFault → GivesSome (S.left src.old) (S.left src.new) (λ bytes. length bytes ≤ INPUT_LIMIT) }
     ensures read_command { result ≡ Status.ReadFault → reads (command_of words.now) ≡ true }
 
-    // A sink that fails has got the front of the reply, which has a text.
+    // A sink that fails has got a prefix of the reply, which has a text.
     ensures write_fault { result ≡ Status.WriteFault → Rose (K.faults out.old) (K.faults out.new) }
-    ensures prefix { result ≡ Status.WriteFault → ForInput (S.left src.old) (λ input.
-        SomeReply words.now input (around ⟦<W as Wire>⟧ ⟦<D as Disk>⟧ wire.old wire.new disk.old disk.new) (λ said.
-        (said.text ≢ []) × GetsPrefix (K.written out.old) (K.written out.new) said.text)) }
+    ensures prefix { CutOff (ran words.now (S.left src.old) result (K.written out.old) (K.written out.new))
+        (around ⟦<W as Wire>⟧ ⟦<D as Disk>⟧ wire.old wire.new disk.old disk.new) }
     ensures silent { IsSilent result → out.new ≡ out.old }
 
     // Only a command that reads touches the source, and it goes on only from the end.
@@ -192,8 +181,8 @@ pub fn run<S: Source, K: Sink, W: Wire, D: Disk>(
     ensures disk_command { IsJournalStop result → uses_disk (command_of words.now) ≡ true }
     ensures refused { IsRefusal result → (wire.new ≡ wire.old) × (disk.new ≡ disk.old) }
 
-    // Each read that fails is told, and so is each write and each call of the disk; a node tells each session that could not be opened, and a courier each
-    // call of the wire that fails. After any other answer none has failed.
+    // Each read that fails is reported, and so is each write and each call of the disk; a node reports each session that could not be opened, and a courier
+    // each call of the wire that fails. After any other answer none has failed.
     ensures source_kept { result ≢ Status.ReadFault → S.faults src.new ≡ S.faults src.old }
     ensures sink_kept { result ≢ Status.WriteFault → K.faults out.new ≡ K.faults out.old }
     ensures disk_kept { result ≢ Status.DiskFault → D.faults disk.new ≡ D.faults disk.old }

@@ -99,7 +99,7 @@ pub fn tell_schedule(
     requires lines { spec.lines + length (lines_of schedule.now) < 2 ^ 64 }
     requires types { typed.now.types ≡ spec.types }
     requires made { IsMadeFor (grammar_of spec.grammar) typed.now }
-    ensures reply { IfOk result (λ reply. Replies (IfAccepted (spec_seen spec) (TellsSchedule telling (spec_seen spec) spec.lines spec.loads (lines_of schedule.now))) reply) }
+    ensures reply { IfOk result (Replies (IfAccepted (spec_seen spec) (TellsSchedule telling (spec_seen spec) spec.lines spec.loads (lines_of schedule.now)))) }
     ensures promises { IfOk result (λ reply. reply.status ≡ Status.Done → OfSchedule Promises (spec_seen spec) spec.loads (lines_of schedule.now)) }
 {
     let lines = spec.lines;

@@ -1,12 +1,12 @@
 //! The command that serves the workspace of a role over a wire.
 ghost use Rattle.std.specs.Prelude.{◌≡◌, ◌≢◌, ◌≤◌, ◌<◌, [], IfOk, IfErr, length};
-ghost use Rattle.aw_grammar.specs.GrammarOf.{grammar_of, declarations_of};
+ghost use Rattle.aw_grammar.specs.GrammarOf.{grammar_of};
 ghost use Rattle.aw_typed.specs.Typing.{IsMadeFor};
-ghost use Rattle.aw_spec.specs.Reading.{Spec};
 ghost use Rattle.aw_out.specs.Causes.{Rose};
 ghost use Rattle.aw_out.specs.Edge.{IsUsedUp, GivesSome};
 ghost use Rattle.aw_run.specs.Devices.{wired};
-ghost use Rattle.aw_run.specs.Replies.{ForInput};
+ghost use Rattle.aw_run.specs.OfInputs.{RepliesTo, StopsBy, StopsFor};
+ghost use Rattle.aw_run.specs.Opening.{ForTyped};
 ghost use Rattle.aw_front.specs.Replies.{Replies};
 ghost use Rattle.aw_run.specs.Serving.{IsServingOutputOf, ServesNamed, ServesRole};
 ghost use Rattle.aw_run.specs.Statuses.{IsReply, IsSilent, IsPastReading, IsRefusal, IsJournalStop, status_of_stop};
@@ -33,10 +33,10 @@ fn serve_role<W: Wire>(
 ) -> Result<Reply, Stop>
     requires role { role < (grammar_of accepted.now.grammar).roles }
     requires made { IsMadeFor (grammar_of accepted.now.grammar) typed.now }
-    ensures reply { IfOk result (λ reply. (s : Spec) → s.declared ≡ declarations_of accepted.now.grammar → s.types ≡ typed.now.types →
-        Replies (ServesRole s role sessions (wired ⟦<W as Wire>⟧ wire.old wire.new)) reply) }
-    ensures stopped { IfErr result (λ stop. (s : Spec) → s.declared ≡ declarations_of accepted.now.grammar → s.types ≡ typed.now.types →
-        StopsNode s role sessions (wired ⟦<W as Wire>⟧ wire.old wire.new) (status_of_stop stop)) }
+    ensures reply { IfOk result (λ reply. ForTyped accepted.now.grammar typed.now.types (λ s.
+        Replies (ServesRole s role sessions (wired ⟦<W as Wire>⟧ wire.old wire.new)) reply)) }
+    ensures stopped { IfErr result (λ stop. ForTyped accepted.now.grammar typed.now.types (λ s.
+        StopsBy (StopsNode s role sessions (wired ⟦<W as Wire>⟧ wire.old wire.new)) stop)) }
     ensures net_cause { result ≡ Err Stop.NetFault → Rose (W.failed_openings wire.old) (W.failed_openings wire.new) }
     ensures net_kept { result ≢ Err Stop.NetFault → W.failed_openings wire.new ≡ W.failed_openings wire.old }
     ensures done { IfOk result (λ reply. reply.status ≡ Status.Done) }
@@ -63,10 +63,10 @@ fn serve_named<W: Wire>(
     wire: &mut W,
 ) -> Result<Reply, Stop>
     requires made { IsMadeFor (grammar_of accepted.now.grammar) typed.now }
-    ensures reply { IfOk result (λ reply. (s : Spec) → s.declared ≡ declarations_of accepted.now.grammar → s.types ≡ typed.now.types →
-        Replies (ServesNamed name.now sessions (wired ⟦<W as Wire>⟧ wire.old wire.new) s) reply) }
-    ensures stopped { IfErr result (λ stop. (s : Spec) → s.declared ≡ declarations_of accepted.now.grammar → s.types ≡ typed.now.types →
-        StopsNodeNamed name.now sessions (wired ⟦<W as Wire>⟧ wire.old wire.new) s (status_of_stop stop)) }
+    ensures reply { IfOk result (λ reply. ForTyped accepted.now.grammar typed.now.types (λ s.
+        Replies (ServesNamed name.now sessions (wired ⟦<W as Wire>⟧ wire.old wire.new) s) reply)) }
+    ensures stopped { IfErr result (λ stop. ForTyped accepted.now.grammar typed.now.types (λ s.
+        StopsBy (StopsNodeNamed name.now sessions (wired ⟦<W as Wire>⟧ wire.old wire.new) s) stop)) }
     ensures net_cause { result ≡ Err Stop.NetFault → Rose (W.failed_openings wire.old) (W.failed_openings wire.new) }
     ensures net_kept { result ≢ Err Stop.NetFault → W.failed_openings wire.new ≡ W.failed_openings wire.old }
     ensures refused { IfOk result (λ reply. IsRefusal reply.status → wire.new ≡ wire.old) }
@@ -116,10 +116,8 @@ pub fn serve_source<S: Source, W: Wire>(
     src: &mut S,
     wire: &mut W,
 ) -> Result<Reply, Stop>
-    ensures reply { IfOk result (λ reply. ForInput (S.left src.old) (λ input.
-        Replies (IsServingOutputOf name.now sessions (wired ⟦<W as Wire>⟧ wire.old wire.new) input) reply)) }
-    ensures stopped { IfErr result (λ stop. ForInput (S.left src.old) (λ input.
-        StopsServing name.now sessions (wired ⟦<W as Wire>⟧ wire.old wire.new) input (status_of_stop stop))) }
+    ensures reply { IfOk result (RepliesTo (S.left src.old) (IsServingOutputOf name.now sessions (wired ⟦<W as Wire>⟧ wire.old wire.new))) }
+    ensures stopped { IfErr result (StopsFor (S.left src.old) (StopsServing name.now sessions (wired ⟦<W as Wire>⟧ wire.old wire.new))) }
     ensures is_reply { IfOk result (λ reply. IsReply reply.status) }
     ensures silent { IfOk result (λ reply. IsSilent reply.status → reply.text ≡ []) }
     ensures end { IfOk result (λ reply. IsPastReading reply.status → IsUsedUp (S.left src.new)) }

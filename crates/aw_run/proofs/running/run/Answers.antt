@@ -7,7 +7,7 @@ use Rattle.aw_run.specs.Carrying.{StopsCarrying}
 use Rattle.aw_run.specs.Unserved.{StopsServing}
 use Rattle.aw_run.specs.Words.{role_word}
 use Rattle.aw_run.proofs.Endings.{Says-job, Says-cause, Says-complete, Says-kept, Says-kept-node, Says-carried, Says-node, Says-trial, done-said}
-use Rattle.aw_run.proofs.Spelled.{Says-replayed}
+use Rattle.aw_run.proofs.Spelled.{Says-replayed, asks-replay}
 use Rattle.aw_run.proofs.Stops.{journal-stops, never-stops, refused-told, stop-complete}
 use Rattle.aw_run.specs.declared.words.Job.TheVariants.{Tells}
 use Rattle.aw_run.specs.declared.words.Telling.TheVariants.{Undivided, Replayed}
@@ -42,57 +42,57 @@ returns-in-Ok-clause-complete g c = Says-complete _ c.args.words.now (around g.W
 pub returns-in-Ok-clause-acyclic : goal.returns-in-Ok-clause-acyclic
 returns-in-Ok-clause-acyclic g c = λ is done.
     let said = done-said c.in-Ok.reply.status c.deliver.result c.deliver.ensures.status done in
-    Says-replayed StaysAcyclic (λ t w h loads es p. p.acyclic) (g.S.Source.left c.args.src.now) c.in-Ok.reply _ (c.in-Ok.ensures.promises (Tells Replayed) is) said (search (rules, done))
+    Says-replayed StaysAcyclic (λ t w h loads es p. p.acyclic) (g.S.Source.left c.args.src.now) c.in-Ok.reply _ (c.in-Ok.ensures.promises (Tells Replayed) (asks-replay c.args.words.now is)) said (search (rules, done))
 
 pub returns-in-Ok-clause-enabled : goal.returns-in-Ok-clause-enabled
 returns-in-Ok-clause-enabled g c = λ is done.
     let said = done-said c.in-Ok.reply.status c.deliver.result c.deliver.ensures.status done in
-    Says-replayed RulesStayEnabled (λ t w h loads es p. p.enabled) (g.S.Source.left c.args.src.now) c.in-Ok.reply _ (c.in-Ok.ensures.promises (Tells Replayed) is) said (search (rules, done))
+    Says-replayed RulesStayEnabled (λ t w h loads es p. p.enabled) (g.S.Source.left c.args.src.now) c.in-Ok.reply _ (c.in-Ok.ensures.promises (Tells Replayed) (asks-replay c.args.words.now is)) said (search (rules, done))
 
 pub returns-in-Ok-clause-started : goal.returns-in-Ok-clause-started
 returns-in-Ok-clause-started g c = λ is done.
     let said = done-said c.in-Ok.reply.status c.deliver.result c.deliver.ensures.status done in
-    Says-replayed StartsStayEnabled (λ t w h loads es p. p.started) (g.S.Source.left c.args.src.now) c.in-Ok.reply _ (c.in-Ok.ensures.promises (Tells Replayed) is) said (search (rules, done))
+    Says-replayed StartsStayEnabled (λ t w h loads es p. p.started) (g.S.Source.left c.args.src.now) c.in-Ok.reply _ (c.in-Ok.ensures.promises (Tells Replayed) (asks-replay c.args.words.now is)) said (search (rules, done))
 
 pub returns-in-Ok-clause-any_order : goal.returns-in-Ok-clause-any_order
 returns-in-Ok-clause-any_order g c = λ is done.
     let said = done-said c.in-Ok.reply.status c.deliver.result c.deliver.ensures.status done in
-    Says-replayed WritesAnyOrder (λ t w h loads es p. p.any_order) (g.S.Source.left c.args.src.now) c.in-Ok.reply _ (c.in-Ok.ensures.promises (Tells Replayed) is) said (search (rules, done))
+    Says-replayed WritesAnyOrder (λ t w h loads es p. p.any_order) (g.S.Source.left c.args.src.now) c.in-Ok.reply _ (c.in-Ok.ensures.promises (Tells Replayed) (asks-replay c.args.words.now is)) said (search (rules, done))
 
 pub returns-in-Ok-clause-merged : goal.returns-in-Ok-clause-merged
 returns-in-Ok-clause-merged g c = λ is done.
     let said = done-said c.in-Ok.reply.status c.deliver.result c.deliver.ensures.status done in
-    Says-replayed SitesMerge (λ t w h loads es p. p.merged) (g.S.Source.left c.args.src.now) c.in-Ok.reply _ (c.in-Ok.ensures.promises (Tells Replayed) is) said (search (rules, done))
+    Says-replayed SitesMerge (λ t w h loads es p. p.merged) (g.S.Source.left c.args.src.now) c.in-Ok.reply _ (c.in-Ok.ensures.promises (Tells Replayed) (asks-replay c.args.words.now is)) said (search (rules, done))
 
 pub returns-in-Ok-clause-answers : goal.returns-in-Ok-clause-answers
 returns-in-Ok-clause-answers g c = λ is done.
     let said = done-said c.in-Ok.reply.status c.deliver.result c.deliver.ensures.status done in
-    Says-replayed SitesAnswerAsOne (λ t w h loads es p. p.answers) (g.S.Source.left c.args.src.now) c.in-Ok.reply _ (c.in-Ok.ensures.promises (Tells Replayed) is) said (search (rules, done))
+    Says-replayed SitesAnswerAsOne (λ t w h loads es p. p.answers) (g.S.Source.left c.args.src.now) c.in-Ok.reply _ (c.in-Ok.ensures.promises (Tells Replayed) (asks-replay c.args.words.now is)) said (search (rules, done))
 
 pub returns-in-Ok-clause-arrived : goal.returns-in-Ok-clause-arrived
 returns-in-Ok-clause-arrived g c = λ is done.
     let said = done-said c.in-Ok.reply.status c.deliver.result c.deliver.ensures.status done in
-    Says-replayed ArrivalsAnswer (λ t w h loads es p. p.arrived) (g.S.Source.left c.args.src.now) c.in-Ok.reply _ (c.in-Ok.ensures.promises (Tells Replayed) is) said (search (rules, done))
+    Says-replayed ArrivalsAnswer (λ t w h loads es p. p.arrived) (g.S.Source.left c.args.src.now) c.in-Ok.reply _ (c.in-Ok.ensures.promises (Tells Replayed) (asks-replay c.args.words.now is)) said (search (rules, done))
 
 pub returns-in-Ok-clause-stays : goal.returns-in-Ok-clause-stays
 returns-in-Ok-clause-stays g c = λ is done.
     let said = done-said c.in-Ok.reply.status c.deliver.result c.deliver.ensures.status done in
-    Says-replayed KnowledgeStays (λ t w h loads es p. p.stays) (g.S.Source.left c.args.src.now) c.in-Ok.reply _ (c.in-Ok.ensures.promises (Tells Replayed) is) said (search (rules, done))
+    Says-replayed KnowledgeStays (λ t w h loads es p. p.stays) (g.S.Source.left c.args.src.now) c.in-Ok.reply _ (c.in-Ok.ensures.promises (Tells Replayed) (asks-replay c.args.words.now is)) said (search (rules, done))
 
 pub returns-in-Ok-clause-no_circle : goal.returns-in-Ok-clause-no_circle
 returns-in-Ok-clause-no_circle g c = λ is done.
     let said = done-said c.in-Ok.reply.status c.deliver.result c.deliver.ensures.status done in
-    Says-replayed NothingCircles (λ t w h loads es p. p.no_circle) (g.S.Source.left c.args.src.now) c.in-Ok.reply _ (c.in-Ok.ensures.promises (Tells Replayed) is) said (search (rules, done))
+    Says-replayed NothingCircles (λ t w h loads es p. p.no_circle) (g.S.Source.left c.args.src.now) c.in-Ok.reply _ (c.in-Ok.ensures.promises (Tells Replayed) (asks-replay c.args.words.now is)) said (search (rules, done))
 
 pub returns-in-Ok-clause-bounded : goal.returns-in-Ok-clause-bounded
 returns-in-Ok-clause-bounded g c = λ is done.
     let said = done-said c.in-Ok.reply.status c.deliver.result c.deliver.ensures.status done in
-    Says-replayed MessagesStayFew (λ t w h loads es p. p.bounded) (g.S.Source.left c.args.src.now) c.in-Ok.reply _ (c.in-Ok.ensures.promises (Tells Replayed) is) said (search (rules, done))
+    Says-replayed MessagesStayFew (λ t w h loads es p. p.bounded) (g.S.Source.left c.args.src.now) c.in-Ok.reply _ (c.in-Ok.ensures.promises (Tells Replayed) (asks-replay c.args.words.now is)) said (search (rules, done))
 
 pub returns-in-Ok-clause-settles : goal.returns-in-Ok-clause-settles
 returns-in-Ok-clause-settles g c = λ is done.
     let said = done-said c.in-Ok.reply.status c.deliver.result c.deliver.ensures.status done in
-    Says-replayed Settled (λ t w h loads es p. p.settles) (g.S.Source.left c.args.src.now) c.in-Ok.reply _ (c.in-Ok.ensures.promises (Tells Replayed) is) said (search (rules, done))
+    Says-replayed Settled (λ t w h loads es p. p.settles) (g.S.Source.left c.args.src.now) c.in-Ok.reply _ (c.in-Ok.ensures.promises (Tells Replayed) (asks-replay c.args.words.now is)) said (search (rules, done))
 
 pub returns-in-Ok-clause-typed_plain : goal.returns-in-Ok-clause-typed_plain
 returns-in-Ok-clause-typed_plain g c = λ is done.
@@ -102,7 +102,7 @@ returns-in-Ok-clause-typed_plain g c = λ is done.
 pub returns-in-Ok-clause-typed_replay : goal.returns-in-Ok-clause-typed_replay
 returns-in-Ok-clause-typed_replay g c = λ is done.
     let said = done-said c.in-Ok.reply.status c.deliver.result c.deliver.ensures.status done in
-    Says-replayed ReplayIsTyped (λ t w h loads es p. p.typed_replay) (g.S.Source.left c.args.src.now) c.in-Ok.reply _ (c.in-Ok.ensures.promises (Tells Replayed) is) said (search (rules, done))
+    Says-replayed ReplayIsTyped (λ t w h loads es p. p.typed_replay) (g.S.Source.left c.args.src.now) c.in-Ok.reply _ (c.in-Ok.ensures.promises (Tells Replayed) (asks-replay c.args.words.now is)) said (search (rules, done))
 
 pub returns-in-Ok-clause-trial : goal.returns-in-Ok-clause-trial
 returns-in-Ok-clause-trial g c = λ n is done.
