@@ -1,5 +1,5 @@
 #!/usr/bin/env python3
-"""book.py AW AW_BOOK [--runs N] [--seed N] [--only WORD]
+"""book.py AW AW_BOOK [--runs N] [--seed N]
 
 Serves 2 to 8 offices by real kept nodes, with drawn choices, couriers in between and nodes that are killed, as offices.py does, and holds what
 AW_BOOK says of their journals to what the nodes and AW say themselves:
