@@ -322,7 +322,7 @@ def fails_so(call: str, rest: int, status: int, said: bytes) -> bool:
     """Whether a call that fails has the status of its kind and a sentence. There is none where there is no memory for it, nor where the calls behind
     fail too that would write it, which then is what the status tells."""
     if call == "memory":
-        return status == NO_MEMORY
+        return status == NO_MEMORY or (status == USAGE and b"out of memory" in said)
     if call == "disk":
         return (status == NOT_READ and bool(said)) or (rest == 1 and status in (NOT_READ, NO_MEMORY))
     return status == NOT_WRITTEN and bool(said)
@@ -556,7 +556,7 @@ def companion(words: list[str], aw: str) -> tuple[str | None, str]:
         process.send_signal(signal.SIGTERM)
         written, said = process.communicate(timeout=60)
     status = process.returncode
-    if told_to_end and status == -signal.SIGTERM:
+    if told_to_end and status in (-signal.SIGTERM, 128 + signal.SIGTERM):
         status = 0
     bad = status < 0 or status > 75 or status == 70 or b"Traceback" in said or (status > 2 and not said + written)
     return ("status %d, %r" % (status, said[-SHOWN:]) if bad else None), str(status)

@@ -14,6 +14,7 @@ BUILT = TOP / "crates" / "aw_book" / "out" / "aw_book"
 VARIABLE = "AW_BOOK"
 PATIENCE = 60.0
 PIECE = 1 << 16
+TRIES, PAUSE, DAMAGED = 5, 0.2, "whole records stand behind those that count"
 
 
 class NotSaid(Exception):
@@ -46,7 +47,20 @@ def lines_of(data: bytes) -> list[str]:
 
 
 def said(*words: str) -> list[str]:
-    """What the book writes for some words."""
+    """What the book writes for some words. Beside a node that writes much it can take whole records for ones that a node would cut off, so then it is asked
+    again."""
+    for _ in range(TRIES):
+        try:
+            return said_once(*words)
+        except NotSaid as error:
+            if DAMAGED not in str(error):
+                raise
+            time.sleep(PAUSE)
+    return said_once(*words)
+
+
+def said_once(*words: str) -> list[str]:
+    """What the book writes for some words, asked once."""
     try:
         done = subprocess.run([found(), *words], capture_output=True, stdin=subprocess.DEVNULL, timeout=PATIENCE, check=False)
     except (OSError, subprocess.TimeoutExpired) as error:
@@ -66,9 +80,9 @@ class Follower:
         self.got = bytearray()
 
     def lines(self) -> list[str]:
-        """What the book says now. A child that ended is begun anew, once."""
+        """What the book says now. A child that ended is begun anew, twice."""
         with self.turn:
-            for last in (False, True):
+            for last in (False, False, True):
                 try:
                     if self.child is None:
                         self.begin()
