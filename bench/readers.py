@@ -319,12 +319,12 @@ def faults(program: str, binary: str, aw: str, source: str, first: int) -> int:
 
 
 def fails_so(call: str, rest: int, status: int, said: bytes) -> bool:
-    """Whether a call that fails has the status of its kind and a sentence. There is none where there is no memory for it, nor where the calls behind
-    fail too that would write it, which then is what the status tells."""
+    """Whether a call that fails has the status of its kind and a sentence. There is none where there is no memory for it, nor where the call fails that
+    would write it, which then is what the status tells."""
     if call == "memory":
         return status == NO_MEMORY or (status == USAGE and b"out of memory" in said)
     if call == "disk":
-        return (status == NOT_READ and bool(said)) or (rest == 1 and status in (NOT_READ, NO_MEMORY))
+        return (status == NOT_READ and (bool(said) or rest == 1)) or (status == NO_MEMORY and (not said or rest == 1))
     return status == NOT_WRITTEN and bool(said)
 
 
