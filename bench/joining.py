@@ -174,7 +174,7 @@ class Whole:
         forged, touched = self.forged & set(within), self.touched & set(within) - self.forged
         apart, rest = parted(part, forged | touched)
         sound = [line for case in within if case not in forged | touched for line in self.world.lines.get(case, [])]
-        found = work.join(rest, sound, self.shown(set(within) - forged - touched))
+        found = work.join(rest, sound, self.shown(set(within) - forged - touched)) if sound else Joined()
         if touched:
             again = [line for case in sorted(touched) for line in self.world.lines.get(case, [])]
             found.add(work.again(again, self.shown(touched)))

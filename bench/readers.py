@@ -114,7 +114,8 @@ def stands(data: bytes) -> tuple[set[str], int]:
         return {"headless", "damaged"}, 0
     events, counted = nodes.events(data)
     good = list(itertools.takewhile(is_event, events))
-    return ({"sound"} if len(good) == len(events) and counted == data else {"cut", "damaged"}), len(good)
+    closed = len(counted) == len(data) and data[-1] != 1
+    return ({"sound"} if len(good) == len(events) and closed else {"cut", "damaged"}), len(good)
 
 
 def is_event(data: bytes) -> bool:
